@@ -1,0 +1,23 @@
+use denote.Ref.{now}
+use mathlib.Core.Path.{sym}
+use lib.ListN.{List·getD-eq-default}
+use borrow.Author.Needs.{needs}
+use Rattle.octets.proofs.byte.Statement.{statement}
+use Rattle.octets.proofs.byte.Tie as tie
+use Rattle.octets.proofs.byte.Reads as reads
+use Rattle.octets.proofs.byte.Lts as lts
+
+-- src/lib.rt:10:22
+shared-slice-read-result : tie.Need-shared-slice-read-result
+shared-slice-read-result c = search needs
+
+-- src/lib.rt:7:1
+returns : tie.Need-returns
+returns c = search needs
+
+-- src/lib.rt:7:1
+returns-2 : tie.Need-returns-2
+returns-2 c = let a = c .before .args in sym (List·getD-eq-default (now (a .s)) 0 (c .if1 .left))
+
+pub byte-spec : {M : Type 1} → statement M
+byte-spec = tie.close (tie.spec shared-slice-read-result returns returns-2)
