@@ -1,5 +1,5 @@
 -- Runs of bytes put into a slice, one behind another.
---     sets-append         one run behind another is one run
+--     sets-append, behind one run behind another is one run
 --     Run, begin, and     what has been put from a place on, and where it ends
 use mathlib.Core.Path.{_≡_, refl, sym, ap, ap₂, _∙_}
 use mathlib.Core.Logic.{_≢_}
@@ -29,6 +29,10 @@ sets-append l i (v ∷ vs) ws =
     ap (λ (k : ℕ). sets (sets (set l i v) (suc i) vs) k ws) (add-suc i (length vs) ∙ sym (suc-add i (length vs)))
     ∙ sets-append (set l i v) (suc i) vs ws
 
+-- a run put behind another, as two calls leave them
+pub behind : (d : List ℕ) (at : ℕ) (vs : List ℕ) {x : List ℕ} {e : ℕ} (ws : List ℕ) {y : List ℕ} → x ≡ sets d at vs → e ≡ at + length vs → y ≡ sets x e ws → y ≡ sets d at (vs ++ ws)
+behind d at vs ws p q r = r ∙ ap₂ (λ (z : List ℕ) (k : ℕ). sets z k ws) p q ∙ sets-append d at vs ws
+
 -- a run of stores goes on behind its first
 pub sets-more : (l : List ℕ) (k a b : ℕ) (ws r : List ℕ) → sets l k (a ∷ ws) ≡ r → a ≡ b → sets (set l k b) (k + 1) ws ≡ r
 sets-more l k a b ws r h e = rw (add-one, ← e) h
@@ -43,7 +47,7 @@ pub begin : (d : List ℕ) (at : ℕ) → Run d at [] d at
 begin d at = record { is = refl; ends = sym (add-zero at) }
 
 pub goes-on : {d : List ℕ} {at : ℕ} {vs x : List ℕ} {e : ℕ} → Run d at vs x e → (ws : List ℕ) → sets x e ws ≡ sets d at (vs ++ ws)
-goes-on {d} {at} {vs} {x} {e} r ws = ap₂ (λ (z : List ℕ) (k : ℕ). sets z k ws) (r .is) (r .ends) ∙ sets-append d at vs ws
+goes-on {d} {at} {vs} r ws = behind d at vs ws (r .is) (r .ends) refl
 
 pub and : {d : List ℕ} {at : ℕ} {vs x : List ℕ} {e : ℕ} → Run d at vs x e → (ws y : List ℕ) (f : ℕ) → f ≡ e + length ws → y ≡ sets x e ws → Run d at (vs ++ ws) y f
 and {d} {at} {vs} {x} {e} r ws y f p q = record {
