@@ -1,6 +1,5 @@
 -- Three runs of digits, one behind the other.
-use Prim.Native.Nat.{ℕ, _+_}
-use mathlib.Core.Path.{_≡_, sym, ap}
+use Prim.Native.Nat.{_+_}
 use mathlib.Core.List.{_++_}
 use native.Mathlib.Omega.{arith}
 use borrow.Author.Needs.{needs}

@@ -1,0 +1,144 @@
+-- The instant of a time, from its pieces.
+--     accepted-inside     a time that is accepted is an instant of 2000 to 2099
+use mathlib.Core.Path.{_≡_, refl, sym, ap, ap₂, _∙_}
+use mathlib.Core.List.{List}
+use mathlib.Core.Logic.{_≢_}
+use mathlib.Core.Bool.{Bool, true, false}
+use Prim.Native.Nat.{ℕ, _+_, _-_, _*_, _≤_, _<_}
+use native.Mathlib.Omega.{arith}
+use borrow.Author.Tests.{eq-eqb, ne-eqb, leb-true, leb-false, ltb-true, le-ltb, lt-ltb}
+use lib.ListN.{length, drop, getD, length-take, length-drop}
+use lib.Seq.{take-all}
+use lib.IntN.{ℤ, pos, negsuc, negℤ, natAbs, _*ℤ_}
+use lib.Signed.{mag, ltZ, leZ, nonNeg}
+use lib.Dec.{T, ltb, eqb}
+use mir.Syntax.{w64}
+use mir.Val.{toZ, ofZ}
+use Rattle.octets.specs.Bytes.{pick, every, holds, byteAt, part}
+use Rattle.octets.specs.declared.Num.the-variants.{Value}
+use Rattle.octets.proofs.Tests.{every-of, one-fails, picked, passed-over}
+use Rattle.clock.specs.Calendar.{daysTo}
+use Rattle.clock.specs.Time.{reads, dateTests, dateOf, minutesOf, secondTests, secondOf, zoneTests, signed, offset, since2000, localTime, utc, span, within, timeTests, timeOf}
+use Rattle.clock.specs.declared.Time.{Time}
+use Rattle.clock.specs.declared.Time.the-variants.{At}
+use Rattle.clock.proofs.Calendar.{days-to-2000}
+use Rattle.clock.proofs.Signed.{mag-neg, mag-sub, mag-sixty, back}
+use Rattle.clock.proofs.Pieces.{read-is, date-under, second-under, zone-under}
+
+pub time-no : (i : ℕ) (t : List ℕ) → getD (timeTests t) i true ≡ false → timeOf t ≡ Time.Bad
+unfolding timeOf
+time-no i t h = passed-over _ _ _ (one-fails i (timeTests t) h)
+
+-- no time begins past the end
+pub time-past : (s : List ℕ) (at n : ℕ) → length s < at → timeOf (part s at n) ≡ Time.Bad
+time-past s at n h =
+    let e : length (part s at n) ≢ 25 = simp (length-take, length-drop) (omega arith) in
+    time-no 0 (part s at n) (ne-eqb (length (part s at n)) 25 e)
+
+-- a part that goes past the end is all that is left
+pub part-rest : (s : List ℕ) (at n : ℕ) → length s - at ≤ n → part s at (length s - at) ≡ part s at n
+part-rest s at n h = take-all (length s - at) (drop at s) (rw length-drop (omega arith)) ∙ sym (take-all n (drop at s) (rw length-drop (omega arith)))
+
+-- ---- in 2000 to 2099 or not: z′ is what the code compares
+
+pub within-before : (z z′ : ℤ) → z′ ≡ z → ltZ z′ (pos 0) ≡ true → within z ≡ Time.Bad
+unfolding within
+within-before z z′ e h = before z (rw e at h)
+  where
+    before : (z : ℤ) → ltZ z (pos 0) ≡ true → within z ≡ Time.Bad
+    before (pos n) h = absurd (omega (arith, ltb-true n 0 h))
+    before (negsuc n) h = refl
+
+pub within-after : (z z′ : ℤ) → z′ ≡ z → leZ (pos span) z′ ≡ true → within z ≡ Time.Bad
+unfolding within
+within-after z z′ e h = after z (rw e at h)
+  where
+    after : (z : ℤ) → leZ (pos span) z ≡ true → within z ≡ Time.Bad
+    after (pos n) h = rw (le-ltb n span (leb-true span n h))
+    after (negsuc n) h = refl
+
+pub record Inside (z : ℤ) : Type 0 where
+  pub sign : T (nonNeg z)
+  pub low : natAbs z < span
+  pub is : At (natAbs z) ≡ within z
+
+pub within-is : (z : ℤ) → ltZ z (pos 0) ≡ false → leZ (pos span) z ≡ false → Inside z
+unfolding within
+within-is (pos n) h k =
+    let l : n < span = leb-false span n k in
+    record { sign = tt; low = l; is = rw (lt-ltb n span l) }
+within-is (negsuc n) h k = let z : _≡_ {A = ℕ} 0 1 = cc in absurd (omega arith)
+
+within-inside : (z : ℤ) (n : ℕ) → within z ≡ At n → n < span
+unfolding within
+within-inside (pos m) n h = chosen (ltb m span) refl h
+  where
+    chosen : (b : Bool) → ltb m span ≡ b → pick b (At m) Time.Bad ≡ At n → n < span
+    chosen true e h = let q : m ≡ n = cc in omega (arith, ltb-true m span e)
+    chosen false e h = let z : _≡_ {A = ℕ} 0 1 = cc in absurd (omega arith)
+within-inside (negsuc m) n h = let z : _≡_ {A = ℕ} 0 1 = cc in absurd (omega arith)
+
+pub accepted-inside : (t : List ℕ) (n : ℕ) → timeOf t ≡ At n → n < span
+unfolding timeOf
+accepted-inside t n h = chosen (every holds (timeTests t)) h
+  where
+    chosen : (b : Bool) → pick b (within (utc (localTime t) (offset t))) Time.Bad ≡ At n → n < span
+    chosen true h = within-inside (utc (localTime t) (offset t)) n h
+    chosen false h = let z : _≡_ {A = ℕ} 0 1 = cc in absurd (omega arith)
+
+-- ---- from the pieces that the code has read: days, second of the day, minutes behind the sign
+
+signed-most : (b m : ℕ) → mag (signed b m) ≤ m + 1
+unfolding signed
+signed-most b m = either (eqb b 45)
+  where
+    either : (t : Bool) → mag (pick t (negℤ (pos m)) (pos m)) ≤ m + 1
+    either true = mag-neg (pos m)
+    either false = omega arith
+
+since-most : (d s : ℕ) → d ≤ 4000000 → s < 86400 → mag (since2000 d s) < 500000000000
+unfolding since2000
+since-most d s h k = omega (arith, mag-sub (pos (d * 86400 + s)) (pos (daysTo 2000 * 86400)), days-to-2000)
+
+pub record Parts (t : List ℕ) (d s m : ℕ) : Type 0 where
+  pub date-read : reads (dateTests t) (dateOf t) ≡ Value d
+  pub second-read : reads (secondTests t) (secondOf t) ≡ Value s
+  pub zone-read : reads (zoneTests t) (minutesOf t 20) ≡ Value m
+
+module _ {t : List ℕ} {d s m : ℕ} (g : Parts t d s m) where
+  pub parts-fit : (d ≤ 4000000) × (s < 86400)
+  parts-fit = (omega (arith, date-under t d (g .date-read)), second-under t s (g .second-read))
+
+  local-most : mag (since2000 d s) < 500000000000
+  local-most = since-most d s (parts-fit .0) (parts-fit .1)
+
+  offset-most : mag (signed (byteAt t 19) m) ≤ 900
+  offset-most = omega (arith, signed-most (byteAt t 19) m, zone-under t m (g .zone-read))
+
+  utc-most : mag (utc (since2000 d s) (signed (byteAt t 19) m)) < 1000000000000
+  unfolding utc
+  utc-most = omega (arith, local-most, offset-most, mag-sub (since2000 d s) (signed (byteAt t 19) m *ℤ pos 60), mag-sixty (signed (byteAt t 19) m))
+
+  local-back : (a : ℤ) → a ≡ since2000 d s → toZ w64 (ofZ w64 a) ≡ since2000 d s
+  local-back a e = rw e (back (since2000 d s) (omega (arith, local-most)))
+
+  offset-back : (z : ℤ) → z ≡ signed (byteAt t 19) m → toZ w64 (ofZ w64 z) ≡ signed (byteAt t 19) m
+  offset-back z e = rw e (back (signed (byteAt t 19) m) (omega (arith, offset-most)))
+
+  pub utc-fits : (a z : ℤ) → a ≡ since2000 d s → z ≡ signed (byteAt t 19) m → (mag (toZ w64 (ofZ w64 a)) < 1000000000000) × (mag (toZ w64 (ofZ w64 z)) < 1000)
+  utc-fits a z e f = (rw (local-back a e) (omega (arith, local-most)), rw (offset-back z f) (omega (arith, offset-most)))
+
+  time-yes : length t ≡ 25 → timeOf t ≡ within (utc (since2000 d s) (signed (byteAt t 19) m))
+  unfolding timeOf
+  time-yes l =
+      let p = read-is (dateTests t) (dateOf t) d (g .date-read) in
+      let q = read-is (secondTests t) (secondOf t) s (g .second-read) in
+      let r = read-is (zoneTests t) (minutesOf t 20) m (g .zone-read) in
+      picked _ _ _ (every-of (timeTests t) (eq-eqb _ _ l, (p .0, (q .0, (r .0, tt)))))
+      ∙ rw (p .1, q .1, r .1)
+
+  pub time-made : (a b z : ℤ) (x : Time) → length t ≡ 25 → a ≡ since2000 d s → z ≡ signed (byteAt t 19) m → b ≡ utc (toZ w64 (ofZ w64 a)) (toZ w64 (ofZ w64 z)) → x ≡ within (toZ w64 (ofZ w64 b)) → x ≡ timeOf t
+  time-made a b z x l e f i h =
+      let j : b ≡ utc (since2000 d s) (signed (byteAt t 19) m) = i ∙ ap₂ utc (local-back a e) (offset-back z f) in
+      let k : toZ w64 (ofZ w64 b) ≡ utc (since2000 d s) (signed (byteAt t 19) m) = rw j (back (utc (since2000 d s) (signed (byteAt t 19) m)) (omega (arith, utc-most))) in
+      h ∙ ap within k ∙ sym (time-yes l)
