@@ -4,4 +4,5 @@ pub mod Pieces
 pub mod Times
 pub mod Periods
 pub mod Stamps
+pub mod Dates
 pub mod FiguresHold

@@ -1,4 +1,5 @@
--- Laws of the period.
+-- The period in each of its three ranges, and what every period is.
+--     period-is     whole quarters of an hour, above 45 minutes whole halves, at most 99 hours 30, and no shorter than asked
 use mathlib.Core.Path.{_≡_, refl}
 use mathlib.Core.Bool.{Bool, true, false}
 use Prim.Native.Nat.{ℕ, _+_, _-_, _*_, _/_, _%_, _≤_, _<_}
@@ -40,15 +41,3 @@ period-is n = by (decLe n 2700) (decLe n 358200)
     by (yes s) d = rw (period-short n s) (record { positive = λ h. omega arith; quarters = omega arith; halves = λ h. absurd (omega arith); most = omega arith; long = λ h. omega arith })
     by (no s) (yes l) = rw (period-long n (omega arith) l) (record { positive = λ h. omega arith; quarters = omega arith; halves = λ h. omega arith; most = omega arith; long = λ h. omega arith })
     by (no s) (no l) = rw (period-most n (omega arith)) (record { positive = λ h. omega arith; quarters = refl; halves = λ h. refl; most = omega arith; long = λ h. absurd (omega arith) })
-
--- more seconds, no shorter a period
-pub period-mono : (a b : ℕ) → a ≤ b → periodOf a ≤ periodOf b
-period-mono a b h = by (decLe a 2700) (decLe b 2700) (decLe a 358200) (decLe b 358200)
-  where
-    by : Dec (a ≤ 2700) → Dec (b ≤ 2700) → Dec (a ≤ 358200) → Dec (b ≤ 358200) → periodOf a ≤ periodOf b
-    by (yes s) (yes t) d e = rw (period-short a s, period-short b t) (omega arith)
-    by (yes s) (no t) d (yes e) = rw (period-short a s, period-long b (omega arith) e) (omega arith)
-    by (yes s) (no t) d (no e) = rw (period-short a s, period-most b (omega arith)) (omega arith)
-    by (no s) t (yes d) (yes e) = rw (period-long a (omega arith) d, period-long b (omega arith) e) (omega arith)
-    by (no s) t (yes d) (no e) = rw (period-long a (omega arith) d, period-most b (omega arith)) (omega arith)
-    by (no s) t (no d) e = rw (period-most a (omega arith), period-most b (omega arith)) (omega arith)

@@ -39,7 +39,9 @@ module _ (tests : List Bool) (v : ℕ) where
 -- what the code has read before the day: the year, the month, whether the year is a leap year, and the days of the month
 pub record Month (t : List ℕ) (y m : ℕ) (l : Bool) (most : ℕ) : Type 0 where
   pub year-read : rangedOf 0 9999 (part t 0 4) ≡ Value y
+  pub dash : byteAt t 4 ≡ 45
   pub month-read : rangedOf 1 12 (part t 5 2) ≡ Value m
+  pub dash-2 : byteAt t 7 ≡ 45
   pub leap-is : l ≡ leap y
   pub most-is : most ≡ monthDays l m
 
@@ -67,14 +69,14 @@ module _ {t : List ℕ} {y m : ℕ} {l : Bool} {most : ℕ} (g : Month t y m l m
       let f′ : b ≡ daysBefore (leap y) m = f ∙ ap (λ (x : Bool). daysBefore x m) e′ in
       omega (arith, days-to-most y year-most, day-in-year y m d month-low month-most k, year-days-most y)
 
-  pub date-yes : (d a b : ℕ) → byteAt t 4 ≡ 45 → byteAt t 7 ≡ 45 → rangedOf 1 most (part t 8 2) ≡ Value d → a ≡ daysTo y → b ≡ daysBefore l m → reads (dateTests t) (dateOf t) ≡ Value (a + b + (d - 1))
+  pub date-yes : (d a b : ℕ) → rangedOf 1 most (part t 8 2) ≡ Value d → a ≡ daysTo y → b ≡ daysBefore l m → reads (dateTests t) (dateOf t) ≡ Value (a + b + (d - 1))
   unfolding dayNumber
-  date-yes d a b e f r i j =
+  date-yes d a b r e f =
       let p = ranged-yes 0 9999 y (part t 0 4) (g .year-read) in
       let q = ranged-yes 1 12 m (part t 5 2) (g .month-read) in
       let s = ranged-yes 1 most d (part t 8 2) r in
       let z : inRange 1 (monthDays (leap (year t)) (month t)) (part t 8 2) ≡ true = rw length-is (s .0) in
-      read-yes (dateTests t) (dateOf t) _ (p .0, (eq-eqb _ _ e, (q .0, (eq-eqb _ _ f, (z, tt))))) (rw (p .1, q .1, s .1, i, j, g .leap-is))
+      read-yes (dateTests t) (dateOf t) _ (p .0, (eq-eqb _ _ (g .dash), (q .0, (eq-eqb _ _ (g .dash-2), (z, tt))))) (rw (p .1, q .1, s .1, e, f, g .leap-is))
 
 pub date-under : (t : List ℕ) (n : ℕ) → reads (dateTests t) (dateOf t) ≡ Value n → n ≤ 3652426
 unfolding dayNumber
@@ -82,7 +84,9 @@ date-under t n h =
     let r = read-is (dateTests t) (dateOf t) n h in
     let e = each-of (dateTests t) (r .0) in
     let m = e .1 .1 .0 in
-    omega (arith, r .1, days-to-most (year t) (range-high 0 9999 (part t 0 4) (e .0)), year-days-most (year t), day-in-year (year t) (month t) (day t) (range-low 1 12 (part t 5 2) m) (range-high 1 12 (part t 5 2) m) (range-high 1 _ (part t 8 2) (e .1 .1 .1 .1 .0)))
+    let y = days-to-most (year t) (range-high 0 9999 (part t 0 4) (e .0)) in
+    let d = day-in-year (year t) (month t) (day t) (range-low 1 12 (part t 5 2) m) (range-high 1 12 (part t 5 2) m) (range-high 1 _ (part t 8 2) (e .1 .1 .1 .1 .0)) in
+    omega (arith, r .1, y, d, year-days-most (year t))
 
 -- ---- hours and minutes
 

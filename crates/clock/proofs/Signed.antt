@@ -3,6 +3,7 @@ use mathlib.Core.Path.{_≡_, ap, ap₂, _∙_}
 use mathlib.Core.Bool.{Bool, true, false, cond}
 use Prim.Native.Nat.{ℕ, zero, suc, _+_, _-_, _*_, _≤_, _<_, _^_}
 use native.Mathlib.Omega.{arith}
+use borrow.Author.Tests.{le-ltb}
 use lib.IntN.{ℤ, pos, negsuc, negℤ, _+ℤ_, _-ℤ_, _*ℤ_, subℕ, +ℤ-idl}
 use lib.Signed.{mag}
 use lib.Dec.{ltb}
@@ -94,3 +95,9 @@ module _ (l m : ℤ) (f : SFits w64 l) (g : SFits w64 m) (h : mag l < 1000000000
 
   pub less-reads : toZ w64 (ofZ w64 (toZ w64 (ofZ w64 l) -ℤ toZ w64 (ofZ w64 (toZ w64 (ofZ w64 m) *ℤ pos 60)))) ≡ l -ℤ (m *ℤ pos 60)
   less-reads = toZ-ofZ less-fits ∙ less-is
+
+-- ---- a difference that is not negative
+
+pub minus : (a b : ℕ) → b ≤ a → pos a -ℤ pos b ≡ pos (a - b)
+minus a zero h = ap pos (omega arith)
+minus a (suc b) h = rw (le-ltb a (suc b) h)

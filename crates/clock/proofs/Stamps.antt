@@ -1,4 +1,8 @@
 -- The year and the day of an instant: when they are right, their bounds, and the way back.
+--     early, late                     the year and the day by cycles of four years
+--     stamp-fits                      a stamp's parts are those of a header, its year one of 2000 to 2099
+--     there-and-back, back-and-there  an instant from its year, day and second, and these from their instant
+--     minute-back                     the instant of a stamp, its seconds dropped
 use mathlib.Core.Path.{_≡_, _∙_}
 use Prim.Native.Nat.{ℕ, zero, suc, _+_, _-_, _*_, _/_, _%_, _≤_, _<_}
 use native.Mathlib.Omega.{arith}
@@ -22,7 +26,7 @@ begun-step k n d (no l) h lo hi r =
     let lo′ : daysTo (2000 + suc n) ≤ daysTo 2000 + d = rw (← e) lo in
     rw (le-leb (daysTo (2000 + suc n)) (daysTo 2000 + d) lo′, e)
 
-pub begun-is : (k n d : ℕ) → k ≤ n → daysTo (2000 + k) ≤ daysTo 2000 + d → daysTo 2000 + d < daysTo (2000 + suc k) → begun n d ≡ 2000 + k
+begun-is : (k n d : ℕ) → k ≤ n → daysTo (2000 + k) ≤ daysTo 2000 + d → daysTo 2000 + d < daysTo (2000 + suc k) → begun n d ≡ 2000 + k
 unfolding begun
 begun-is k zero d h lo hi = omega arith
 begun-is k (suc n) d h lo hi = begun-step k n d (decLe k n) h lo hi (λ l. begun-is k n d l lo hi)
@@ -34,11 +38,11 @@ pub record Placed (d k j : ℕ) : Type 0 where
   pub short : j < yearDays (2000 + k)
   pub is : daysTo 2000 + d ≡ daysTo (2000 + k) + j
 
-pub year-is : (d k j : ℕ) → Placed d k j → yearOf d ≡ 2000 + k
+year-is : (d k j : ℕ) → Placed d k j → yearOf d ≡ 2000 + k
 unfolding yearOf
 year-is d k j p = begun-is k 99 d (p .few) (omega arith) (rw add-suc (omega (arith, days-to-next (2000 + k))))
 
-pub day-is : (d k j : ℕ) → Placed d k j → dayOf d ≡ j + 1
+day-is : (d k j : ℕ) → Placed d k j → dayOf d ≡ j + 1
 unfolding dayOf
 day-is d k j p = rw (year-is d k j p) (omega arith)
 
@@ -50,7 +54,7 @@ year-day-is d k j y i p e f = rw (e, f, year-is d k j p, day-is d k j p)
 pub span-is : (daysTo 2100 - daysTo 2000) * 86400 ≡ span
 span-is = rw (days-to-2000, days-to-after 100 (omega arith))
 
-pub placed-few : (d k j : ℕ) → Placed d k j → d < 36525
+placed-few : (d k j : ℕ) → Placed d k j → d < 36525
 placed-few d k j p =
     let m = days-to-mono (suc (2000 + k)) 2100 (omega (arith, p .few)) in
     omega (arith, p .is, p .short, days-to-next (2000 + k), days-to-2000, days-to-after 100 (omega arith))
@@ -58,7 +62,7 @@ placed-few d k j p =
 -- ---- the same by cycles of four years, as the code goes
 
 -- the first year of four, of 366 days
-pub first-year : (d q j : ℕ) → q ≤ 24 → j < 366 → d ≡ q * 1461 + j → Placed d (q * 4) j
+first-year : (d q j : ℕ) → q ≤ 24 → j < 366 → d ≡ q * 1461 + j → Placed d (q * 4) j
 first-year d q j h l e = record {
   few = omega arith;
   short = omega (arith, year-long (q * 4) (omega arith));
@@ -66,7 +70,7 @@ first-year d q j h l e = record {
 }
 
 -- the three after it
-pub later-year : (d q i j : ℕ) → q ≤ 24 → i ≤ 2 → j < 365 → d ≡ q * 1461 + 366 + i * 365 + j → Placed d (q * 4 + 1 + i) j
+later-year : (d q i j : ℕ) → q ≤ 24 → i ≤ 2 → j < 365 → d ≡ q * 1461 + 366 + i * 365 + j → Placed d (q * 4 + 1 + i) j
 later-year d q i j h b l e = record {
   few = omega arith;
   short = omega (arith, year-long (q * 4 + 1 + i) (omega arith));
@@ -88,7 +92,7 @@ late d h l =
 
 -- ---- what callers want: bounds, and the way there and back
 
--- the day of an instant, and the way back from it
+-- the year and the day of an instant's day
 pub record Dated (d y j : ℕ) : Type 0 where
   pub first : 2000 ≤ y
   pub last : y ≤ 2099
@@ -108,8 +112,11 @@ dated d h = by (decLt (d % 1461) 366)
     by (yes l) = dated-by d _ _ (early d h l)
     by (no l) = dated-by d _ _ (late d h (omega arith))
 
+days-back : (d : ℕ) → d < 36525 → daysTo (yearOf d) + (dayOf d - 1) - daysTo 2000 ≡ d
+days-back d h = omega (arith, dated d h .back)
+
 -- a day of a year is in its place
-pub placed : (y j : ℕ) → 2000 ≤ y → y ≤ 2099 → 1 ≤ j → j ≤ yearDays y → Placed (daysTo y + (j - 1) - daysTo 2000) (y - 2000) (j - 1)
+placed : (y j : ℕ) → 2000 ≤ y → y ≤ 2099 → 1 ≤ j → j ≤ yearDays y → Placed (daysTo y + (j - 1) - daysTo 2000) (y - 2000) (j - 1)
 placed y j a b h k =
     let e : 2000 + (y - 2000) ≡ y = omega arith in
     let m = days-to-mono 2000 y a in
@@ -118,10 +125,7 @@ placed y j a b h k =
 -- from an instant to its year, day and second, and back
 pub there-and-back : (n : ℕ) → n < span → instantOf (yearOf (n / 86400)) (dayOf (n / 86400)) (n % 86400) ≡ n
 unfolding instantOf
-there-and-back n h =
-    let g = dated (n / 86400) (omega arith) in
-    let e : daysTo (yearOf (n / 86400)) + (dayOf (n / 86400) - 1) - daysTo 2000 ≡ n / 86400 = omega arith in
-    rw e (omega arith)
+there-and-back n h = rw (days-back (n / 86400) (omega arith)) (omega arith)
 
 -- from a year, day and second to the instant, and back
 pub record Came (n y j s : ℕ) : Type 0 where
@@ -171,10 +175,7 @@ stamp-fits n h =
 -- the instant of a stamp's minute: the seconds are dropped
 pub minute-back : (n : ℕ) → n < span → instantOf (stampOf n .year) (stampOf n .day) (stampOf n .hour * 3600 + stampOf n .minute * 60) + n % 60 ≡ n
 unfolding stampOf instantOf
-minute-back n h =
-    let g = dated (n / 86400) (omega arith) in
-    let e : daysTo (yearOf (n / 86400)) + (dayOf (n / 86400) - 1) - daysTo 2000 ≡ n / 86400 = omega arith in
-    rw e (parts n)
+minute-back n h = rw (days-back (n / 86400) (omega arith)) (parts n)
   where
     parts : (n : ℕ) → n / 86400 * 86400 + (n % 86400 / 3600 * 3600 + n % 3600 / 60 * 60) + n % 60 ≡ n
     parts n = omega arith

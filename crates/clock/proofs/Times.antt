@@ -96,11 +96,15 @@ signed-most b m = either (eqb b 45)
     either true = mag-neg (pos m)
     either false = omega arith
 
+signed-back : (z : ℤ) (b m : ℕ) → z ≡ signed b m → m ≤ 899 → toZ w64 (ofZ w64 z) ≡ signed b m
+signed-back z b m e h = rw e (back (signed b m) (omega (arith, signed-most b m)))
+
 since-most : (d s : ℕ) → d ≤ 4000000 → s < 86400 → mag (since2000 d s) < 500000000000
 unfolding since2000
 since-most d s h k = omega (arith, mag-sub (pos (d * 86400 + s)) (pos (daysTo 2000 * 86400)), days-to-2000)
 
 pub record Parts (t : List ℕ) (d s m : ℕ) : Type 0 where
+  pub long : length t ≡ 25
   pub date-read : reads (dateTests t) (dateOf t) ≡ Value d
   pub second-read : reads (secondTests t) (secondOf t) ≡ Value s
   pub zone-read : reads (zoneTests t) (minutesOf t 20) ≡ Value m
@@ -112,33 +116,33 @@ module _ {t : List ℕ} {d s m : ℕ} (g : Parts t d s m) where
   local-most : mag (since2000 d s) < 500000000000
   local-most = since-most d s (parts-fit .0) (parts-fit .1)
 
-  offset-most : mag (signed (byteAt t 19) m) ≤ 900
-  offset-most = omega (arith, signed-most (byteAt t 19) m, zone-under t m (g .zone-read))
+  pub behind-most : m ≤ 899
+  behind-most = zone-under t m (g .zone-read)
 
   utc-most : mag (utc (since2000 d s) (signed (byteAt t 19) m)) < 1000000000000
   unfolding utc
-  utc-most = omega (arith, local-most, offset-most, mag-sub (since2000 d s) (signed (byteAt t 19) m *ℤ pos 60), mag-sixty (signed (byteAt t 19) m))
+  utc-most = omega (arith, local-most, signed-most (byteAt t 19) m, behind-most, mag-sub (since2000 d s) (signed (byteAt t 19) m *ℤ pos 60), mag-sixty (signed (byteAt t 19) m))
 
   local-back : (a : ℤ) → a ≡ since2000 d s → toZ w64 (ofZ w64 a) ≡ since2000 d s
   local-back a e = rw e (back (since2000 d s) (omega (arith, local-most)))
 
-  offset-back : (z : ℤ) → z ≡ signed (byteAt t 19) m → toZ w64 (ofZ w64 z) ≡ signed (byteAt t 19) m
-  offset-back z e = rw e (back (signed (byteAt t 19) m) (omega (arith, offset-most)))
+  -- what is asked of the two before they are subtracted
+  pub utc-fits : (a z : ℤ) (b k : ℕ) → a ≡ since2000 d s → z ≡ signed b k → k ≤ 899 → (mag (toZ w64 (ofZ w64 a)) < 1000000000000) × (mag (toZ w64 (ofZ w64 z)) < 1000)
+  utc-fits a z b k e f h = (rw (local-back a e) (omega (arith, local-most)), rw (signed-back z b k f h) (omega (arith, signed-most b k)))
 
-  pub utc-fits : (a z : ℤ) → a ≡ since2000 d s → z ≡ signed (byteAt t 19) m → (mag (toZ w64 (ofZ w64 a)) < 1000000000000) × (mag (toZ w64 (ofZ w64 z)) < 1000)
-  utc-fits a z e f = (rw (local-back a e) (omega (arith, local-most)), rw (offset-back z f) (omega (arith, offset-most)))
-
-  time-yes : length t ≡ 25 → timeOf t ≡ within (utc (since2000 d s) (signed (byteAt t 19) m))
+  time-yes : timeOf t ≡ within (utc (since2000 d s) (signed (byteAt t 19) m))
   unfolding timeOf
-  time-yes l =
+  time-yes =
       let p = read-is (dateTests t) (dateOf t) d (g .date-read) in
       let q = read-is (secondTests t) (secondOf t) s (g .second-read) in
       let r = read-is (zoneTests t) (minutesOf t 20) m (g .zone-read) in
-      picked _ _ _ (every-of (timeTests t) (eq-eqb _ _ l, (p .0, (q .0, (r .0, tt)))))
+      picked _ _ _ (every-of (timeTests t) (eq-eqb _ _ (g .long), (p .0, (q .0, (r .0, tt)))))
       ∙ rw (p .1, q .1, r .1)
 
-  pub time-made : (a b z : ℤ) (x : Time) → length t ≡ 25 → a ≡ since2000 d s → z ≡ signed (byteAt t 19) m → b ≡ utc (toZ w64 (ofZ w64 a)) (toZ w64 (ofZ w64 z)) → x ≡ within (toZ w64 (ofZ w64 b)) → x ≡ timeOf t
-  time-made a b z x l e f i h =
-      let j : b ≡ utc (since2000 d s) (signed (byteAt t 19) m) = i ∙ ap₂ utc (local-back a e) (offset-back z f) in
-      let k : toZ w64 (ofZ w64 b) ≡ utc (since2000 d s) (signed (byteAt t 19) m) = rw j (back (utc (since2000 d s) (signed (byteAt t 19) m)) (omega (arith, utc-most))) in
-      h ∙ ap within k ∙ sym (time-yes l)
+  -- the instant that the code has made of local time a and offset z
+  pub time-made : (a b z : ℤ) (x : Time) → a ≡ since2000 d s → z ≡ signed (byteAt t 19) m → b ≡ utc (toZ w64 (ofZ w64 a)) (toZ w64 (ofZ w64 z)) → x ≡ within (toZ w64 (ofZ w64 b)) → x ≡ timeOf t
+  time-made a b z x e f i h =
+      let u = utc (since2000 d s) (signed (byteAt t 19) m) in
+      let j : b ≡ u = i ∙ ap₂ utc (local-back a e) (signed-back z (byteAt t 19) m f behind-most) in
+      let k : toZ w64 (ofZ w64 b) ≡ u = rw j (back u (omega (arith, utc-most))) in
+      h ∙ ap within k ∙ sym time-yes

@@ -26,6 +26,7 @@ months l = 31 ∷ pick l 29 28 ∷ 31 ∷ 30 ∷ 31 ∷ 30 ∷ 31 ∷ 31 ∷ 30 
 unfoldable pub monthDays : Bool → ℕ → ℕ
 monthDays l m = getD (months l) (m - 1) 0
 
+-- all of a list together
 unfoldable pub sum : List ℕ → ℕ
 sum [] = 0
 sum (n ∷ ns) = n + sum ns

@@ -1,4 +1,4 @@
--- Proved (P), as a single table under a single statement.
+-- Proved (P), as a single table under a single statement: `All figures`.
 use Prim.Native.Nat.{ℕ}
 use Prim.Native.String.{String}
 use mathlib.Core.Path.{_≡_}
@@ -6,11 +6,12 @@ use mathlib.Core.List.{List, [], _∷_, _++_}
 use Rattle.octets.specs.Text.{bytes}
 use Rattle.clock.specs.Time.{timeOf}
 use Rattle.clock.specs.Period.{periodOf}
-use Rattle.clock.specs.Stamp.{stampOf}
-use Rattle.clock.specs.Written.{tttt, jjjhhmm}
+use Rattle.clock.specs.Stamp.{stamped}
+use Rattle.clock.specs.Written.{tttt}
 use Rattle.clock.specs.declared.Time.{Time}
 use Rattle.clock.specs.declared.Time.the-variants.{At}
 
+-- a row of the table
 pub data Row : Type 0 where
   seconds : ℕ → String → Row
   sent : String → String → Row
@@ -18,19 +19,21 @@ pub data Row : Type 0 where
 
 -- the JJJHHMM of a time, if it is one
 unfoldable pub written : Time → List ℕ
-written (At n) = jjjhhmm (stampOf n .day) (stampOf n .hour) (stampOf n .minute)
+written (At n) = stamped n
 written Time.Bad = []
 
--- seconds give a TTTT; a time as sent gives a JJJHHMM; no time begins with what is no date
+-- seconds n give TTTT; sent gives JJJHHMM; what is no date begins no time
 unfoldable pub Holds : Row → Type 0
 Holds (seconds n t) = tttt (periodOf n) ≡ bytes t
 Holds (sent t j) = written (timeOf (bytes t)) ≡ bytes j
 Holds (noDate d) = (rest : List ℕ) → timeOf (bytes d ++ rest) ≡ Time.Bad
 
+-- the statement
 unfoldable pub All : List Row → Type 0
 All [] = Unit {0}
 All (r ∷ rs) = Holds r × All rs
 
+-- the table
 unfoldable pub figures : List Row
 figures =
     seconds 1 "0015"

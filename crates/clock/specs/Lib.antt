@@ -1,6 +1,6 @@
 pub mod Calendar
 pub mod Time
+pub mod Written
 pub mod Period
 pub mod Stamp
-pub mod Written
 pub mod Figures

@@ -7,6 +7,7 @@ use Rattle.octets.specs.Bytes.{pick}
 unfoldable pub up : ℕ → ℕ → ℕ
 up n d = (n + (d - 1)) / d
 
+-- n, at most so many
 unfoldable pub atMost : ℕ → ℕ → ℕ
 atMost most n = pick (leb n most) n most
 

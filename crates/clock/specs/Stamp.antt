@@ -1,8 +1,10 @@
--- JJJHHMM: day of year, hour, minute in UTC, and the year; and the instant that they are of.
+-- JJJHHMM: day of year, hour, minute of an instant in UTC; its year, and the way back to the instant.
 use Prim.Native.Nat.{ℕ, zero, suc, _+_, _-_, _*_, _/_, _%_}
+use mathlib.Core.List.{List}
 use lib.Dec.{leb}
 use Rattle.octets.specs.Bytes.{pick}
 use Rattle.clock.specs.Calendar.{daysTo}
+use Rattle.clock.specs.Written.{jjjhhmm}
 use Rattle.clock.specs.declared.Stamp.{Stamp}
 use Rattle.clock.specs.declared.YearDay.{YearDay}
 
@@ -11,7 +13,7 @@ unfoldable pub begun : ℕ → ℕ → ℕ
 begun zero d = 2000
 begun (suc k) d = pick (leb (daysTo (2000 + suc k)) (daysTo 2000 + d)) (2000 + suc k) (begun k d)
 
--- its year
+-- the year of that day
 unfoldable pub yearOf : ℕ → ℕ
 yearOf d = begun 99 d
 
@@ -19,10 +21,11 @@ yearOf d = begun 99 d
 unfoldable pub dayOf : ℕ → ℕ
 dayOf d = daysTo 2000 + d - daysTo (yearOf d) + 1
 
+-- the year and the day of year of that day
 unfoldable pub yearDayOf : ℕ → YearDay
 yearDayOf d = record { year = yearOf d; day = dayOf d }
 
--- year, day of year, hour, minute of an instant in UTC, seconds dropped
+-- day of year, hour, minute in UTC, seconds dropped
 unfoldable pub stampOf : ℕ → Stamp
 stampOf n = record {
   year = yearOf (n / 86400);
@@ -30,6 +33,10 @@ stampOf n = record {
   hour = n % 86400 / 3600;
   minute = n % 3600 / 60;
 }
+
+-- JJJHHMM of an instant
+abbrev pub stamped : ℕ → List ℕ
+stamped n = jjjhhmm (stampOf n .day) (stampOf n .hour) (stampOf n .minute)
 
 -- the instant of a second of a day of a year
 unfoldable pub instantOf : ℕ → ℕ → ℕ → ℕ

@@ -17,8 +17,9 @@ use Rattle.clock.specs.declared.Time.the-variants.{At}
 unfoldable pub reads : List Bool → ℕ → Num
 reads tests v = pick (every holds tests) (Value v) Bad
 
--- ---- `YYYY-MM-DD`, a real Gregorian date
+-- ---- `YYYY-MM-DD`
 
+-- `YYYY`, `MM` and `DD`
 abbrev pub year : List ℕ → ℕ
 year t = value (part t 0 4)
 
@@ -28,6 +29,7 @@ month t = value (part t 5 2)
 abbrev pub day : List ℕ → ℕ
 day t = value (part t 8 2)
 
+-- a real Gregorian date
 abbrev pub dateTests : List ℕ → List Bool
 dateTests t =
     inRange 0 9999 (part t 0 4)
@@ -41,27 +43,33 @@ dateTests t =
 abbrev pub dateOf : List ℕ → ℕ
 dateOf t = dayNumber (year t) (month t) (day t)
 
--- ---- `hh:mm` from index at, hours to a bound and minutes to 59, in minutes
+-- ---- `hh:mm`, and `zh:zm`, from index at
 
+-- hours to a bound, minutes to 59
 abbrev pub minutesTests : List ℕ → ℕ → ℕ → List Bool
 minutesTests t at most = inRange 0 most (part t at 2) ∷ eqb (byteAt t (at + 2)) 58 ∷ inRange 0 59 (part t (at + 3) 2) ∷ []
 
+-- in minutes
 abbrev pub minutesOf : List ℕ → ℕ → ℕ
 minutesOf t at = value (part t at 2) * 60 + value (part t (at + 3) 2)
 
--- ---- `Thh:mm:ss`, hours to 23, minutes and seconds to 59, in seconds of the day
+-- ---- `Thh:mm:ss`
 
+-- minutes and seconds to 59, hours to 23
 abbrev pub secondTests : List ℕ → List Bool
 secondTests t = eqb (byteAt t 10) 84 ∷ every holds (minutesTests t 11 23) ∷ eqb (byteAt t 16) 58 ∷ inRange 0 59 (part t 17 2) ∷ []
 
+-- the second of the day
 abbrev pub secondOf : List ℕ → ℕ
 secondOf t = minutesOf t 11 * 60 + value (part t 17 2)
 
--- ---- then `+` or `-`, `zh:zm`, zh to 14, zm to 59
+-- ---- then `+` or `-`, `zh:zm`
 
+-- `+` or `-`
 unfoldable pub isSign : ℕ → Bool
 isSign b = oneOf (43 ∷ 45 ∷ []) b
 
+-- zh to 14, zm to 59; `Z` is refused, `+00:00` allowed
 abbrev pub zoneTests : List ℕ → List Bool
 zoneTests t = isSign (byteAt t 19) ∷ every holds (minutesTests t 20 14) ∷ []
 
@@ -75,14 +83,15 @@ offset t = signed (byteAt t 19) (minutesOf t 20)
 
 -- ---- local time less the signed offset must lie in 2000 to 2099 UTC
 
--- seconds since 2000 began, of a second of the day that so many days precede
+-- seconds since 2000 began, of a second of the day before which so many days lie
 unfoldable pub since2000 : ℕ → ℕ → ℤ
 since2000 days second = pos (days * 86400 + second) -ℤ pos (daysTo 2000 * 86400)
 
+-- local time
 abbrev pub localTime : List ℕ → ℤ
 localTime t = since2000 (dateOf t) (secondOf t)
 
--- local time less the signed offset
+-- less the signed offset
 unfoldable pub utc : ℤ → ℤ → ℤ
 utc local minutes = local -ℤ (minutes *ℤ pos 60)
 
@@ -90,15 +99,17 @@ utc local minutes = local -ℤ (minutes *ℤ pos 60)
 abbrev pub span : ℕ
 span = 3155760000
 
--- an instant of 2000 to 2099, or none
+-- must lie in 2000 to 2099 UTC
 unfoldable pub within : ℤ → Time
 within (pos n) = pick (ltb n span) (At n) Time.Bad
 within (negsuc n) = Time.Bad
 
--- ---- `YYYY-MM-DDThh:mm:ss` then `+` or `-`, `zh:zm`
+-- ---- the whole
 
+-- `YYYY-MM-DDThh:mm:ss` then `+` or `-`, `zh:zm`
 abbrev pub timeTests : List ℕ → List Bool
 timeTests t = eqb (length t) 25 ∷ every holds (dateTests t) ∷ every holds (secondTests t) ∷ every holds (zoneTests t) ∷ []
 
+-- the instant of a time
 unfoldable pub timeOf : List ℕ → Time
 timeOf t = pick (every holds (timeTests t)) (within (utc (localTime t) (offset t))) Time.Bad

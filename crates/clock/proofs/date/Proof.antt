@@ -19,15 +19,27 @@ read-year c = sym (c .before .before .before .ranged .ensures) ∙ c .before .y 
 read-month : (c : tie.After-known-told2) → rangedOf 1 12 (part (c .before .before .before .before .before .before .before .before .before .before .before .args .t .now) 5 2) ≡ Value (c .before .m .given .0 .0)
 read-month c = sym (c .before .before .before .ranged2 .ensures) ∙ c .before .m .given .1
 
-read : (c : tie.After-month-days) → let m = c .before .before .before .before in let y = m .before .before .before .before .before .before in Month (y .before .before .before .before .before .args .t .now) (y .before .y .given .0 .0) (m .before .m .given .0 .0) (c .before .is-leap .result) (c .month-days .result)
-read c = record {
-  year-read = read-year (c .before .before .before .before .before .before .before .before .before .before);
-  month-read = read-month (c .before .before .before .before);
-  leap-is = c .before .is-leap .ensures;
-  most-is = c .month-days .ensures;
-}
+read :
+    (c : tie.After-month-days) →
+    let m = c .before .before .before .before in
+    let y = m .before .before .before .before .before .before in
+    Month (y .before .before .before .before .before .args .t .now) (y .before .y .given .0 .0) (m .before .m .given .0 .0) (c .before .is-leap .result) (c .month-days .result)
+read c =
+    let m = c .before .before .before .before in
+    record {
+      year-read = read-year (m .before .before .before .before .before .before);
+      dash = m .before .before .before .before .if1 .left;
+      month-read = read-month m;
+      dash-2 = c .before .before .if2 .left;
+      leap-is = c .before .is-leap .ensures;
+      most-is = c .month-days .ensures;
+    }
 
-read-day : (c : tie.After-known-told3) → let r = c .before .before .before .before in rangedOf 1 (r .month-days .result) (part (r .before .before .before .before .before .before .before .before .before .before .before .before .before .before .before .args .t .now) 8 2) ≡ Value (c .before .d .given .0 .0)
+read-day :
+    (c : tie.After-known-told3) →
+    let r = c .before .before .before .before in
+    let m = r .before .before .before .before in
+    rangedOf 1 (r .month-days .result) (part (m .before .before .before .before .before .before .before .before .before .before .before .args .t .now) 8 2) ≡ Value (c .before .d .given .0 .0)
 read-day c = sym (c .before .before .before .ranged3 .ensures) ∙ c .before .d .given .1
 
 ranged-requires : tie.Need-ranged-requires
@@ -104,9 +116,7 @@ add-t18 : tie.Need-add-t18
 add-t18 c = omega (arith, fits c)
 
 returns-6 : tie.Need-returns-6
-returns-6 c =
-    let r = c .before .before .before .before .before .before in
-    sym (date-yes (read r) _ _ _ (r .before .before .before .before .before .before .before .before .if1 .left) (r .before .before .if2 .left) (read-day (c .before .before)) (c .before .days-to .ensures) (c .days-before .ensures))
+returns-6 c = sym (date-yes (read (c .before .before .before .before .before .before)) _ _ _ (read-day (c .before .before)) (c .before .days-to .ensures) (c .days-before .ensures))
 
 pub date-spec : {M : Type 1} → statement M
 date-spec =

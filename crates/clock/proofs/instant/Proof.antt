@@ -1,19 +1,26 @@
 -- A refusal names the piece that failed; the instant is that of the definition, since each signed value fits its bits.
 use mathlib.Core.Path.{sym, _∙_}
+use native.Mathlib.Omega.{arith}
 use borrow.Author.Needs.{needs}
 use borrow.Author.Tests.{ne-eqb}
 use Rattle.clock.proofs.Pieces.{read-not}
-use Rattle.clock.proofs.Times.{Parts, time-no, parts-fit, utc-fits, time-made}
+use Rattle.clock.proofs.Times.{Parts, time-no, parts-fit, behind-most, utc-fits, time-made}
 use Rattle.clock.proofs.instant.Statement.{statement}
 use Rattle.clock.proofs.instant.Tie as tie
 
--- the three pieces
-read : (c : tie.After-known-told3) → let m = c .before in let s = m .before .before .before .before in let d = s .before .before .before .before in Parts (d .before .before .before .before .before .args .t .now) (d .days .given .0 .0) (s .seconds .given .0 .0) (m .behind .given .0 .0)
+-- the length and the three pieces
+read :
+    (c : tie.After-known-told3) →
+    let m = c .before in
+    let s = m .before .before .before .before in
+    let d = s .before .before .before .before in
+    Parts (d .before .before .before .before .before .args .t .now) (d .days .given .0 .0) (s .seconds .given .0 .0) (m .behind .given .0 .0)
 read c =
     let m = c .before in
     let s = m .before .before .before .before in
     let d = s .before .before .before .before in
     record {
+      long = d .before .before .before .if1 .left;
       date-read = sym (d .before .before .date .ensures) ∙ d .days .given .1;
       second-read = sym (s .before .before .second .ensures) ∙ s .seconds .given .1;
       zone-read = sym (m .before .before .zone .ensures) ∙ m .behind .given .1;
@@ -68,15 +75,17 @@ since-2000-requires : tie.Need-since-2000-requires
 since-2000-requires c κs = parts-fit (read (c .before .before))
 
 to-utc-requires : tie.Need-to-utc-requires
-to-utc-requires c κs = utc-fits (read (c .before .before .before)) _ _ (c .since-2000 .ensures) (c .before .with-sign .ensures)
+to-utc-requires c κs =
+    let r = read (c .before .before .before) in
+    utc-fits r _ _ _ _ (c .since-2000 .ensures) (c .before .with-sign .ensures) (omega (arith, behind-most r))
 
 in-span-requires : tie.Need-in-span-requires
 in-span-requires c κs = search needs
 
 returns-5 : tie.Need-returns-5
 returns-5 c =
-    let r = c .before .before .before .before .before in
-    time-made (read r) _ _ _ _ (r .before .before .before .before .before .before .before .before .before .before .before .before .if1 .left) (c .before .before .since-2000 .ensures) (c .before .before .before .with-sign .ensures) (c .before .to-utc .ensures) (c .in-span .ensures)
+    let u = c .before .before in
+    time-made (read (u .before .before .before)) _ _ _ _ (u .since-2000 .ensures) (u .before .with-sign .ensures) (c .before .to-utc .ensures) (c .in-span .ensures)
 
 pub instant-spec : {M : Type 1} → statement M
 instant-spec =

@@ -9,7 +9,11 @@ use Rattle.clock.proofs.minutes.Statement.{statement}
 use Rattle.clock.proofs.minutes.Tie as tie
 
 -- what has been read
-read : (c : tie.After-known-told2) → let h = c .before .before .before .before .before .before .before in let a = h .before .before .before .before .args in Hours (a .t .now) (a .at) (a .most) (h .h .given .0 .0) (c .before .m .given .0 .0)
+read :
+    (c : tie.After-known-told2) →
+    let h = c .before .before .before .before .before .before .before in
+    let a = h .before .before .before .before .args in
+    Hours (a .t .now) (a .at) (a .most) (h .h .given .0 .0) (c .before .m .given .0 .0)
 read c =
     let m = c .before in
     let h = m .before .before .before .before .before .before in

@@ -9,7 +9,10 @@ use Rattle.clock.proofs.second.Statement.{statement}
 use Rattle.clock.proofs.second.Tie as tie
 
 -- what has been read
-read : (c : tie.After-known-told2) → let m = c .before .before .before .before .before .before .before in Seconds (m .before .before .before .before .before .before .args .t .now) (m .m .given .0 .0) (c .before .s .given .0 .0)
+read :
+    (c : tie.After-known-told2) →
+    let m = c .before .before .before .before .before .before .before in
+    Seconds (m .before .before .before .before .before .before .args .t .now) (m .m .given .0 .0) (c .before .s .given .0 .0)
 read c =
     let s = c .before in
     let m = s .before .before .before .before .before .before in
