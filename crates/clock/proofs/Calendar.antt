@@ -43,7 +43,7 @@ unfolding daysBefore months sum monthDays
 month-is l m h k = eqb-true _ _ (both-kinds (λ l m. eqb (daysBefore l (m + 1)) (daysBefore l m + monthDays l m)) 12 refl refl l m h k)
 
 -- no more before a month than in the year
-pub before-most : (l : Bool) (m : ℕ) → 1 ≤ m → m ≤ 13 → daysBefore l m ≤ pick l 366 365
+before-most : (l : Bool) (m : ℕ) → 1 ≤ m → m ≤ 13 → daysBefore l m ≤ pick l 366 365
 unfolding daysBefore months sum
 before-most l m h k = leb-true _ _ (both-kinds (λ l m. leb (daysBefore l m) (pick l 366 365)) 13 refl refl l m h k)
 

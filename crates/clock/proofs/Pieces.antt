@@ -1,6 +1,6 @@
 -- The pieces of a time: a refusal from the one test that fails, a value from all that hold, and how large the values are.
 --     read-no, read-yes, read-is, read-not     a piece from its tests, and its tests from what was read
---     date-under, minutes-under, second-under  how large a value that was read is
+--     date-under, second-under, zone-under     how large a value that was read is
 use mathlib.Core.Path.{_≡_, sym, ap, _∙_}
 use mathlib.Core.List.{List}
 use mathlib.Core.Bool.{Bool, true, false, and-true}
@@ -22,7 +22,7 @@ module _ (tests : List Bool) (v : ℕ) where
   unfolding reads
   read-no i h = passed-over (every holds tests) (Value v) Bad (one-fails i tests h)
 
-  pub read-yes : (n : ℕ) → Each tests → v ≡ n → reads tests v ≡ Value n
+  read-yes : (n : ℕ) → Each tests → v ≡ n → reads tests v ≡ Value n
   unfolding reads
   read-yes n h e = picked (every holds tests) (Value v) Bad (every-of tests h) ∙ ap Value e
 
@@ -114,7 +114,7 @@ minutes-most t at most h =
     let e = each-of (minutesTests t at most) h in
     omega (arith, range-high 0 most (part t at 2) (e .0), range-high 0 59 (part t (at + 3) 2) (e .1 .1 .0))
 
-pub minutes-under : (t : List ℕ) (at most m : ℕ) → reads (minutesTests t at most) (minutesOf t at) ≡ Value m → m ≤ most * 60 + 59
+minutes-under : (t : List ℕ) (at most m : ℕ) → reads (minutesTests t at most) (minutesOf t at) ≡ Value m → m ≤ most * 60 + 59
 minutes-under t at most m h = let a = read-is (minutesTests t at most) (minutesOf t at) m h in omega (arith, minutes-most t at most (a .0), a .1)
 
 -- ---- the second of the day

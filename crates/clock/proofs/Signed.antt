@@ -20,7 +20,7 @@ mag-cond false x y n h k = k
 mag-subℕ : (a b : ℕ) → mag (subℕ a b) ≤ a + b
 mag-subℕ a b = mag-cond (ltb a b) (b - suc a) (a - b) (a + b) (omega arith) (omega arith)
 
-pub mag-add : (x y : ℤ) → mag (x +ℤ y) ≤ mag x + mag y + 1
+mag-add : (x y : ℤ) → mag (x +ℤ y) ≤ mag x + mag y + 1
 mag-add (pos a) (pos b) = omega arith
 mag-add (pos a) (negsuc b) = omega (arith, mag-subℕ a (suc b))
 mag-add (negsuc a) (pos b) = omega (arith, mag-subℕ b (suc a))

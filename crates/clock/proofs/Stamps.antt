@@ -93,7 +93,7 @@ late d h l =
 -- ---- what callers want: bounds, and the way there and back
 
 -- the year and the day of an instant's day
-pub record Dated (d y j : ℕ) : Type 0 where
+record Dated (d y j : ℕ) : Type 0 where
   pub first : 2000 ≤ y
   pub last : y ≤ 2099
   pub one : 1 ≤ j
@@ -105,7 +105,7 @@ dated-by d k j p =
     rw (year-is d k j p, day-is d k j p)
     (record { first = omega arith; last = omega (arith, p .few); one = omega arith; most = omega (arith, p .short); back = omega (arith, p .is) })
 
-pub dated : (d : ℕ) → d < 36525 → Dated d (yearOf d) (dayOf d)
+dated : (d : ℕ) → d < 36525 → Dated d (yearOf d) (dayOf d)
 dated d h = by (decLt (d % 1461) 366)
   where
     by : Dec (d % 1461 < 366) → Dated d (yearOf d) (dayOf d)
