@@ -1,2 +1,4 @@
 pub mod Periods
 pub mod Asking
+pub mod Padded
+pub mod Has

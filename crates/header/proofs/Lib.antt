@@ -1,0 +1,4 @@
+pub mod Lengths
+pub mod Locations
+pub mod Reading
+pub mod Writing
