@@ -42,7 +42,7 @@ module _ (room : ℕ) (p : Parts) (fits : 252 ≤ room) where
 
 -- ---- and what number 0 says
 
-pub record Written0 (room : ℕ) (p : Parts) : Type 0 where
+pub record Answered (room : ℕ) (p : Parts) : Type 0 where
   pub fits : 252 ≤ room
   pub station : stationOk (p .station) ≡ true
   pub body : bodyOk (p .body) ≡ true
@@ -53,8 +53,8 @@ by true true false h = absurd (omega arith)
 by true false c h = absurd (omega arith)
 by false b c h = absurd (omega arith)
 
-pub written : (room : ℕ) (p : Parts) → writeNumber room p ≡ 0 → Written0 room p
+pub answered : (room : ℕ) (p : Parts) → writeNumber room p ≡ 0 → Answered room p
 unfolding writeNumber
-written room p h =
+answered room p h =
     let a = by (leb 252 room) (stationOk (p .station)) (bodyOk (p .body)) h in
     record { fits = leb-true 252 room (a .0); station = a .1; body = a .2 }

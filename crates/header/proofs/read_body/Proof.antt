@@ -1,6 +1,7 @@
 -- One piece after the other; a piece that is refused refuses the body, and the pieces that are taken say what it is.
 use Prim.Native.Nat.{ℕ, _+_, _-_, _*_}
 use mathlib.Core.Bool.{true}
+use mathlib.Core.List.{List}
 use mathlib.Core.Path.{_≡_, sym, ap, _∙_}
 use native.Mathlib.Omega.{arith}
 use lib.ListN.{length, take, drop}
@@ -9,6 +10,7 @@ use borrow.Author.Tests.{not-true, not-false}
 use Rattle.header.proofs.Locations.{form-is}
 use Rattle.header.proofs.Reading.{length-is, few-in, head-unknown, period-bad, time-no, body-refused, body-taken}
 use Rattle.header.specs.Body.{periodRead, timeRead, lengthForm, countOf, timesPart}
+use Rattle.octets.proofs.Parts.{sliced}
 use Rattle.parts.specs.declared.Locations.{Locations}
 use Rattle.header.proofs.read_body.Statement.{statement}
 use Rattle.header.proofs.read_body.Tie as tie
@@ -29,14 +31,14 @@ to-head c = c .before .before
 abbrev to-length : tie.After-originator → tie.Else1
 to-length c = c .before .before .before
 
-lengthy : (c : tie.Else1) → lengthForm (length (c .before .before .before .args .s .now)) ≡ true
+abbrev said : tie.Else1 → List ℕ
+said c = c .before .before .before .args .s .now
+
+lengthy : (c : tie.Else1) → lengthForm (length (said c)) ≡ true
 lengthy c = sym (c .before .length-ok .ensures) ∙ not-false _ (c .if1 .left)
 
-times : (c : tie.After-t) → timesPart ((to-length (to-head (to-locations c))) .before .before .before .args .s .now) ≡ take (12 + 7 * countOf ((to-length (to-head (to-locations c))) .before .before .before .args .s .now) + 14 - (12 + 7 * countOf ((to-length (to-head (to-locations c))) .before .before .before .args .s .now))) (drop (12 + 7 * countOf ((to-length (to-head (to-locations c))) .before .before .before .args .s .now)) ((to-length (to-head (to-locations c))) .before .before .before .args .s .now))
-times c =
-    let s = (to-length (to-head (to-locations c))) .before .before .before .args .s .now in
-    let e : 14 ≡ 12 + 7 * countOf s + 14 - (12 + 7 * countOf s) = omega arith in
-    ap (λ (n : ℕ). take n (drop (12 + 7 * countOf s) s)) e
+times : (c : tie.Else1) → timesPart (said c) ≡ take (12 + 7 * countOf (said c) + 14 - (12 + 7 * countOf (said c))) (drop (12 + 7 * countOf (said c)) (said c))
+times c = sliced (said c) (12 + 7 * countOf (said c)) 14
 
 length-ok-requires : tie.Need-length-ok-requires
 length-ok-requires c κs = search needs
@@ -105,7 +107,7 @@ refused-body-requires-4 : tie.Need-refused-body-requires-4
 refused-body-requires-4 c κs = search needs
 
 returns-4 : tie.Need-returns-4
-returns-4 c = c .refused-body4 .ensures ∙ sym (body-refused 3 _ (period-bad _ (ap periodRead (times (c .before .before .before .before)) ∙ sym (c .before .before .before .period-of .ensures) ∙ c .before .enum-told2 .given .1)))
+returns-4 c = c .refused-body4 .ensures ∙ sym (body-refused 3 _ (period-bad _ (ap periodRead (times (to-length (to-head (to-locations (c .before .before .before .before))))) ∙ sym (c .before .before .before .period-of .ensures) ∙ c .before .enum-told2 .given .1)))
 
 time-of-requires : tie.Need-time-of-requires
 time-of-requires c κs = search needs
@@ -120,14 +122,14 @@ refused-body-requires-5 : tie.Need-refused-body-requires-5
 refused-body-requires-5 c κs = search needs
 
 returns-5 : tie.Need-returns-5
-returns-5 c = c .refused-body5 .ensures ∙ sym (body-refused 4 _ (time-no _ (ap timeRead (times (to-part (to-period (c .before .before .before)))) ∙ sym (c .before .before .before .time-of .ensures) ∙ c .before .enum-told3 .given .1)))
+returns-5 c = c .refused-body5 .ensures ∙ sym (body-refused 4 _ (time-no _ (ap timeRead (times (to-length (to-head (to-locations (to-part (to-period (c .before .before .before))))))) ∙ sym (c .before .before .before .time-of .ensures) ∙ c .before .enum-told3 .given .1)))
 
 three-at-requires : tie.Need-three-at-requires
 three-at-requires c κs = omega (arith, length-is _ (lengthy (to-length (to-head (to-locations (to-part (to-period (c .before .before .before))))))))
 
 returns-6 : tie.Need-returns-6
 returns-6 c =
-    let e = times (to-part (to-period (c .before .before .before .before .before))) in
+    let e = times (to-length (to-head (to-locations (to-part (to-period (c .before .before .before .before .before)))))) in
     body-taken _ _ _ _ _ _ _ _ (lengthy (to-length (to-head (to-locations (to-part (to-period (c .before .before .before .before .before))))))) (sym ((to-head (to-locations (to-part (to-period (c .before .before .before .before .before))))) .before .before .head-of .ensures) ∙ (to-head (to-locations (to-part (to-period (c .before .before .before .before .before))))) .originator .given .1) (c .before .three-at .ensures) ((to-locations (to-part (to-period (c .before .before .before .before .before)))) .locations-of .ensures) (not-false _ ((to-part (to-period (c .before .before .before .before .before))) .before .if2 .left))
     (ap periodRead e ∙ sym ((to-period (c .before .before .before .before .before)) .before .before .period-of .ensures) ∙ (to-period (c .before .before .before .before .before)) .period .given .1) (ap timeRead e ∙ sym (c .before .before .before .before .before .time-of .ensures) ∙ c .before .before .before .day .given .1)
 

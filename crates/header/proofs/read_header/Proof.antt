@@ -1,15 +1,16 @@
 -- A body, then the station and the dash, each tested in turn.
-use Prim.Native.Nat.{ℕ, _+_, _-_}
+use Prim.Native.Nat.{ℕ}
 use mathlib.Core.Path.{_≡_, sym, ap, _∙_}
 use native.Mathlib.Nat.{sub-zero}
 use native.Mathlib.Omega.{arith}
-use lib.ListN.{take, drop, length-take}
+use lib.ListN.{take, length-take}
 use borrow.Author.Needs.{needs}
 use borrow.Author.Tests.{not-true, not-false, ne-eqb}
 use Rattle.header.proofs.Reading.{body-other, header-refused, header-taken, short-not}
 use Rattle.header.specs.Body.{readBodyOf}
 use Rattle.header.specs.Header.{stationAt}
 use Rattle.header.specs.declared.BodyRead.{BodyRead}
+use Rattle.octets.proofs.Parts.{sliced}
 use Rattle.octets.specs.Bytes.{part}
 use Rattle.parts.specs.Parts.{stationOk}
 use Rattle.header.proofs.read_header.Statement.{statement}
@@ -23,10 +24,7 @@ front : (c : tie.After-read-body) → c .read-body .result ≡ readBodyOf (take 
 front c = let s = c .before .before .before .before .args .s .now in c .read-body .ensures ∙ ap (λ (n : ℕ). readBodyOf (take n s)) (sub-zero (stationAt s))
 
 station : (c : tie.After-station-ok) → stationOk (part ((to-front c) .before .before .before .before .args .s .now) (stationAt ((to-front c) .before .before .before .before .args .s .now)) 8) ≡ c .station-ok .result
-station c =
-    let s = (to-front c) .before .before .before .before .args .s .now in
-    let e : 8 ≡ stationAt s + 8 - stationAt s = omega arith in
-    ap (λ (n : ℕ). stationOk (take n (drop (stationAt s) s))) e ∙ sym (c .station-ok .ensures)
+station c = let s = (to-front c) .before .before .before .before .args .s .now in ap stationOk (sliced s (stationAt s) 8) ∙ sym (c .station-ok .ensures)
 
 refused-requires : tie.Need-refused-requires
 refused-requires c κs = search needs
