@@ -5,3 +5,4 @@ pub mod Reading
 pub mod Writing
 pub mod WriteThenRead
 pub mod ReadThenWrite
+pub mod Examples

@@ -23,7 +23,7 @@ use Rattle.octets.proofs.Sames.{same-is}
 use Rattle.octets.proofs.Tests.{Each, each-of}
 use Rattle.octets.specs.Bytes.{pick, every, byteAt, part, same}
 use Rattle.octets.specs.Text.{bytes}
-use Rattle.parts.proofs.Has.{ok-of, event-long, event-capitals}
+use Rattle.parts.proofs.Has.{ok-of, event-long, event-capitals, Small, small, none-small}
 use Rattle.parts.proofs.Padded.{padded-first, padded-rest, padded-long}
 use Rattle.parts.specs.Asked.{padded}
 use Rattle.parts.specs.Originator.{originatorBytes, originatorOf, isKnown, known}
@@ -155,6 +155,15 @@ header-zero s = go (headerForm s)
     go : (b : Bool) → (pick {A = Read} b (record { number = 0; parts = partsOf s }) refusal) .number ≡ 0 → (b ≡ true) × ((pick {A = Read} b (record { number = 0; parts = partsOf s }) refusal) .parts ≡ partsOf s)
     go true e = (refl, refl)
     go false e = absurd (omega arith)
+
+-- what a read returns fits a few bits, refused or not
+pub read-small : (s : List ℕ) → Small (readOf s .parts .body)
+unfolding readOf
+read-small s = go (headerForm s) refl
+  where
+    go : (b : Bool) → headerForm s ≡ b → Small ((pick {A = Read} b (record { number = 0; parts = partsOf s }) refusal) .parts .body)
+    go true e = small (partsOf s .body) (parts-ok s e .0)
+    go false e = none-small
 
 -- ---- demand 2, second half
 

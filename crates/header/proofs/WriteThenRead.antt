@@ -2,7 +2,7 @@
 --     read-written-header     the header, through a lent output
 --     read-written-body       the header through the dash after JJJHHMM
 --     written-header          how many bytes a written header has, where they stand, and that the rest is kept
-use Prim.Native.Nat.{ℕ, _+_, _*_, _≤_}
+use Prim.Native.Nat.{ℕ, zero, suc, _+_, _*_, _≤_}
 use mathlib.Core.Bool.{true}
 use mathlib.Core.List.{List, [], _∷_, _++_}
 use mathlib.Core.Path.{_≡_, refl, sym, ap, ap₂, _∙_}
@@ -15,9 +15,9 @@ use Rattle.header.proofs.Lengths.{length-originator, length-times, leng
 use Rattle.header.proofs.Locations.{locations-back}
 use Rattle.header.proofs.Reading.{body-accepted, header-accepted}
 use Rattle.header.proofs.Times.{period-back, period-form, time-form, day-back, hour-back, minute-back}
-use Rattle.header.proofs.Writing.{write-done, answered}
+use Rattle.header.proofs.Writing.{write-refused, write-done, answered}
 use Rattle.header.specs.Body.{locationsBytes, timesBytes, bodyBytes, headTests, headForm, locationsForm, locationsOf, periodOf, periodForm, dayOf, hourOf, minuteOf, timeForm, countIn, lengthTests, lengthForm, countOf, timesPart, bodyFormTests, bodyForm, bodyOf, readBodyOf}
-use Rattle.header.specs.Header.{headerBytes, stationAt, headerTests, headerForm, partsOf, readOf, writeOf, writeBytes}
+use Rattle.header.specs.Header.{headerBytes, stationAt, headerTests, headerForm, partsOf, readOf, writeNumber, writeOf, writeBytes}
 use Rattle.header.specs.declared.Written.{Written}
 use Rattle.octets.proofs.Tests.{each-of, every-of, between-is}
 use Rattle.octets.specs.Bytes.{byteAt, part, same}
@@ -141,9 +141,6 @@ module _ (b : Body) (ok : bodyOk b ≡ true) where
 -- ---- the header
 
 module _ (p : Parts) (ok : bodyOk (p .body) ≡ true) (st : stationOk (p .station) ≡ true) where
-  front : List ℕ
-  front = bodyBytes (p .body)
-
   at-is : stationAt (headerBytes p) ≡ length (bodyBytes (p .body))
   at-is = omega (arith, length-header p ok st, body-length (p .body) ok)
 
@@ -197,6 +194,15 @@ written-header d p e =
       is = ap₂ take l x ∙ take-at s (drop (0 + length s) d) (length s) refl;
       kept = ap₂ drop l x ∙ drop-at s (drop (0 + length s) d) (length s) refl ∙ rest ∙ ap (λ (k : ℕ). drop k d) (sym l);
     }
+
+-- refused or not, what a write returns is at most 252
+pub write-small : (d : List ℕ) (p : Parts) → writeOf d p .len ≤ 252
+unfolding writeOf
+write-small d p = go (writeNumber (length d) p) refl
+  where
+    go : (n : ℕ) → writeNumber (length d) p ≡ n → writeOf d p .len ≤ 252
+    go zero e = written-header d p e .most
+    go (suc k) e = let l : writeOf d p .len ≡ 0 = ap (λ (r : Written). r .len) (write-refused d p k e .0) in omega arith
 
 -- Reading a written header gives back its originator, event, locations in order, period, time and station.
 pub read-written-header : (d : List ℕ) (p : Parts) → writeOf d p .number ≡ 0 → readOf (take (writeOf d p .len) (writeBytes d p)) ≡ record { number = 0; parts = p }

@@ -14,7 +14,7 @@ ghost use Rattle.parts.specs.Asked.{askedParts};
 ghost use Rattle.header.specs.Body.{locationsBytes, timesBytes, bodyBytes, headRead, locationsRead, periodRead, timeRead, lengthForm, bodyRefusal, readBodyOf};
 ghost use Rattle.header.specs.Header.{headerBytes, refusal, readOf, writeOf, writeBytes};
 
-pub enum Time {
+enum Time {
     At { day: u32, hour: u32, minute: u32 },
     No,
 }

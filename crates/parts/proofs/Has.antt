@@ -3,10 +3,12 @@ use Prim.Native.Nat.{ℕ, _≤_}
 use mathlib.Core.Bool.{true, false}
 use mathlib.Core.List.{List}
 use mathlib.Core.Path.{_≡_, refl}
+use native.Mathlib.Omega.{arith}
 use lib.ListN.{length, take, drop}
 use borrow.Author.Tests.{leb-true, eqb-true, le-leb, eq-eqb}
 use Rattle.octets.proofs.Tests.{each-of, every-of, between-low, between-high, between-is}
 use Rattle.octets.specs.Bytes.{every, between, isCapital}
+use Rattle.parts.proofs.Periods.{period-high}
 use Rattle.parts.specs.Parts.{eventTests, eventOk, isLocation, isZero, locationsTests, locationsOk, isPeriod, timesTests, timesOk, bodyTests, bodyOk, stationTests, stationOk, noBody}
 use Rattle.parts.specs.declared.Body.{Body}
 
@@ -66,6 +68,23 @@ event-long t h = eqb-true (length t) 3 (each-of (eventTests t) h .0)
 pub event-capitals : (t : List ℕ) → eventOk t ≡ true → every isCapital t ≡ true
 unfolding eventOk
 event-capitals t h = each-of (eventTests t) h .1 .0
+
+-- ---- numbers that fit a few bits
+
+pub record Small (b : Body) : Type 0 where
+  pub count : b .count ≤ 31
+  pub period : b .period ≤ 5970
+  pub day : b .day ≤ 366
+  pub hour : b .hour ≤ 23
+  pub minute : b .minute ≤ 59
+
+pub small : (b : Body) → bodyOk b ≡ true → Small b
+small b h =
+    let a = has b h in
+    record { count = a .few; period = period-high (b .period) (a .period); day = a .last; hour = a .hour; minute = a .minute }
+
+pub none-small : Small noBody
+none-small = record { count = omega arith; period = omega arith; day = omega arith; hour = omega arith; minute = omega arith }
 
 -- zeros are no body
 pub no-body-not : bodyOk noBody ≡ false

@@ -1,12 +1,12 @@
 -- Parts as a caller over numbers and bytes asks for them.
 use Prim.Native.Nat.{ℕ, zero, suc, _+_, _*_, _/_}
 use mathlib.Core.Bool.{Bool, true, false}
-use mathlib.Core.List.{List, [], _∷_}
+use mathlib.Core.List.{List, [], _∷_, _++_}
 use lib.ListN.{length}
 use lib.Seq.{sets}
 use lib.Dec.{leb, eqb}
 use Rattle.octets.specs.Bytes.{pick, part, every, holds}
-use Rattle.octets.specs.Digits.{allDigits, value}
+use Rattle.octets.specs.Digits.{allDigits, value, digits}
 use Rattle.parts.specs.Originator.{isKnown, known, numbered}
 use Rattle.parts.specs.Parts.{noLocations, noBody, noStation}
 use Rattle.parts.specs.declared.Locations.{Locations}
@@ -17,7 +17,12 @@ use Rattle.parts.specs.declared.Parts.{Parts}
 abbrev pub padded : List ℕ → List ℕ
 padded ps = sets noLocations 0 ps
 
--- n locations from index at, six digits for each, one behind the other
+-- six digits for each location, one behind the other
+unfoldable pub sixesBytes : List ℕ → List ℕ
+sixesBytes [] = []
+sixesBytes (v ∷ vs) = digits 6 v ++ sixesBytes vs
+
+-- n locations read so from index at
 unfoldable pub sixes : ℕ → List ℕ → ℕ → List ℕ
 sixes zero s at = []
 sixes (suc n) s at = value (part s at 6) ∷ sixes n s (at + 6)

@@ -141,7 +141,7 @@ pub fn station_ok(t: &[u8]) -> bool
 }
 
 // Whether the first n are locations.
-pub fn all_locations(list: &[u32], n: usize) -> bool
+fn all_locations(list: &[u32], n: usize) -> bool
     requires { ⌜ n ≤ length (now list) ⌝ }
     ensures { λ r. ⌜ r ≡ every isLocation (take n (now (list .entry))) ⌝ }
 {
@@ -156,7 +156,7 @@ pub fn all_locations(list: &[u32], n: usize) -> bool
 }
 
 // Whether zeros stand behind the first n.
-pub fn zeros_behind(list: &[u32], n: usize) -> bool
+fn zeros_behind(list: &[u32], n: usize) -> bool
     ensures { λ r. ⌜ r ≡ every isZero (drop n (now (list .entry))) ⌝ }
 {
     let mut i = n;
@@ -279,7 +279,7 @@ pub fn no_body() -> Body
 }
 
 // Locations of six digits each, one behind the other.
-pub fn asked_locations(s: &[u8]) -> Locations
+fn asked_locations(s: &[u8]) -> Locations
     ensures { λ r. ⌜ r ≡ sixesRead (now (s .entry)) ⌝ }
 {
     let mut list = [0u32; 31];
@@ -314,7 +314,7 @@ pub fn asked_locations(s: &[u8]) -> Locations
     }
 }
 
-pub fn asked_body(
+fn asked_body(
     originator: u32,
     event: &[u8],
     locations: &[u8],
@@ -349,7 +349,7 @@ pub fn asked_body(
     }
 }
 
-pub fn asked_station(t: &[u8]) -> [u8; 8]
+fn asked_station(t: &[u8]) -> [u8; 8]
     ensures { λ r. ⌜ r ≡ askedStation (now (t .entry)) ⌝ }
 {
     if t.len() != 8 {
