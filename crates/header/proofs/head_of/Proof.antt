@@ -8,6 +8,16 @@ use Rattle.parts.specs.Originator.{isKnown}
 use Rattle.header.proofs.head_of.Statement.{statement}
 use Rattle.header.proofs.head_of.Tie as tie
 
+-- back from one place to another
+abbrev to-dash : tie.After-event-ok → tie.Else2
+to-dash c = c .before .before
+
+abbrev to-originator : tie.Else2 → tie.After-originator
+to-originator c = c .before .before .before
+
+abbrev to-zczc : tie.After-originator → tie.Else1
+to-zczc c = c .before .before .before
+
 slice-aggregate-stands-at : tie.Need-slice-aggregate-stands-at
 slice-aggregate-stands-at c = search needs
 
@@ -54,8 +64,11 @@ returns-4 c = sym (head-refused 3 _ (sym (c .before .event-ok .ensures) ∙ not-
 returns-5 : tie.Need-returns-5
 unfolding bytes
 returns-5 c =
-    let o = sym (c .before .before .before .before .before .before .before .before .originator-of .ensures) ∙ c .before .before .before .before .before .before .originator .given .1 in
-    sym (head-taken _ _ (sym (c .before .before .before .before .before .before .before .before .before .before .stands-at .ensures) ∙ not-false _ (c .before .before .before .before .before .before .before .before .before .if1 .left), (ap isKnown o, (eq-eqb _ _ (c .before .before .before .if2 .left), (sym (c .before .event-ok .ensures) ∙ not-false _ (c .if3 .left), tt)))) o)
+    let at-dash = to-dash (c .before) in
+    let at-originator = to-originator at-dash in
+    let at-zczc = to-zczc at-originator in
+    let o = sym (at-originator .before .before .originator-of .ensures) ∙ at-originator .originator .given .1 in
+    sym (head-taken _ _ (sym (at-zczc .before .stands-at .ensures) ∙ not-false _ (at-zczc .if1 .left), (ap isKnown o, (eq-eqb _ _ (at-dash .if2 .left), (sym (c .before .event-ok .ensures) ∙ not-false _ (c .if3 .left), tt)))) o)
 
 pub head-of-spec : {M : Type 1} → statement M
 head-of-spec =

@@ -63,7 +63,11 @@ slice-aggregate-put-bytes-2 : tie.Need-slice-aggregate-put-bytes-2
 slice-aggregate-put-bytes-2 c = search needs
 
 put-bytes-requires-2 : tie.Need-put-bytes-requires-2
-put-bytes-requires-2 c κs = omega (arith, event-long (to-start (to-zczc (to-originator (c .before .before .before .before)))), (to-start (to-zczc (to-originator (c .before .before .before .before)))) .pre, (to-zczc (to-originator (c .before .before .before .before))) .put-bytes .kept .0, (to-originator (c .before .before .before .before)) .put-originator .kept .0, c .before .before .before .before .put-byte .kept .0)
+put-bytes-requires-2 c κs =
+    let at-originator = to-originator (c .before .before .before .before) in
+    let at-zczc = to-zczc at-originator in
+    let at-start = to-start at-zczc in
+    omega (arith, event-long at-start, at-start .pre, at-zczc .put-bytes .kept .0, at-originator .put-originator .kept .0, c .before .before .before .before .put-byte .kept .0)
 
 add-put-locations : tie.Need-add-put-locations
 add-put-locations c = search needs
@@ -72,7 +76,12 @@ slice-aggregate-put-locations : tie.Need-slice-aggregate-put-locations
 slice-aggregate-put-locations c = search needs
 
 put-locations-requires : tie.Need-put-locations-requires
-put-locations-requires c κs = omega (arith, list-long (to-start (to-zczc (to-originator (to-dash (c .before .before .before .before))))), (to-start (to-zczc (to-originator (to-dash (c .before .before .before .before))))) .pre, (to-zczc (to-originator (to-dash (c .before .before .before .before)))) .put-bytes .kept .0, (to-originator (to-dash (c .before .before .before .before))) .put-originator .kept .0, (to-dash (c .before .before .before .before)) .put-byte .kept .0, c .before .before .before .before .put-bytes2 .kept .0)
+put-locations-requires c κs =
+    let at-dash = to-dash (c .before .before .before .before) in
+    let at-originator = to-originator at-dash in
+    let at-zczc = to-zczc at-originator in
+    let at-start = to-start at-zczc in
+    omega (arith, list-long at-start, at-start .pre, at-zczc .put-bytes .kept .0, at-originator .put-originator .kept .0, at-dash .put-byte .kept .0, c .before .before .before .before .put-bytes2 .kept .0)
 
 add-put-times : tie.Need-add-put-times
 add-put-times c = search needs
@@ -92,15 +101,21 @@ same-length c = search needs
 returns : tie.Need-returns
 unfolding bodyBytes bytes
 returns c =
-    let a = (to-start (to-zczc (to-originator (to-dash (to-event (to-locations (c .before .before))))))) .args in
+    let at-locations = to-locations (c .before .before) in
+    let at-event = to-event at-locations in
+    let at-dash = to-dash at-event in
+    let at-originator = to-originator at-dash in
+    let at-zczc = to-zczc at-originator in
+    let at-start = to-start at-zczc in
+    let a = at-start .args in
     let b = a .b in
     let l = locationsBytes (take (b .count) (b .locations)) in
-    let long = length-first (b .count) (b .locations) (omega (arith, list-long (to-start (to-zczc (to-originator (to-dash (to-event (to-locations (c .before .before))))))), (to-start (to-zczc (to-originator (to-dash (to-event (to-locations (c .before .before))))))) .pre)) in
-    let one = and (begin (a .out .now) (a .at)) (bytes "ZCZC-") _ (a .at + 5) refl ((to-zczc (to-originator (to-dash (to-event (to-locations (c .before .before)))))) .put-bytes .ensures) in
-    let two = and one (originatorBytes (b .originator)) _ (a .at + 8) (omega (arith, length-originator (b .originator))) ((to-originator (to-dash (to-event (to-locations (c .before .before))))) .put-originator .ensures) in
-    let three = and two (45 ∷ []) _ (a .at + 9) (omega arith) ((to-dash (to-event (to-locations (c .before .before)))) .put-byte .ensures) in
-    let four = and three (b .event) _ (a .at + 12) (omega (arith, event-long (to-start (to-zczc (to-originator (to-dash (to-event (to-locations (c .before .before))))))))) ((to-event (to-locations (c .before .before))) .put-bytes2 .ensures) in
-    let five = and four l _ (a .at + 12 + 7 * b .count) (omega arith) ((to-locations (c .before .before)) .put-locations .ensures) in
+    let long = length-first (b .count) (b .locations) (omega (arith, list-long at-start, at-start .pre)) in
+    let one = and (begin (a .out .now) (a .at)) (bytes "ZCZC-") _ (a .at + 5) refl (at-zczc .put-bytes .ensures) in
+    let two = and one (originatorBytes (b .originator)) _ (a .at + 8) (omega (arith, length-originator (b .originator))) (at-originator .put-originator .ensures) in
+    let three = and two (45 ∷ []) _ (a .at + 9) (omega arith) (at-dash .put-byte .ensures) in
+    let four = and three (b .event) _ (a .at + 12) (omega (arith, event-long at-start)) (at-event .put-bytes2 .ensures) in
+    let five = and four l _ (a .at + 12 + 7 * b .count) (omega arith) (at-locations .put-locations .ensures) in
     simp append-assoc at (c .before .before .put-times .ensures ∙ goes-on five (timesBytes (b .period) (b .day) (b .hour) (b .minute)))
 
 pub put-body-spec : {M : Type 1} → statement M

@@ -44,7 +44,9 @@ slice-aggregate-put-bytes : tie.Need-slice-aggregate-put-bytes
 slice-aggregate-put-bytes c = search needs
 
 put-bytes-requires : tie.Need-put-bytes-requires
-put-bytes-requires c κs = omega (arith, station-long (to-start (c .before .before .before .before)), (to-start (c .before .before .before .before)) .pre, c .before .before .before .before .put-body .kept .0)
+put-bytes-requires c κs =
+    let at-start = to-start (c .before .before .before .before) in
+    omega (arith, station-long at-start, at-start .pre, c .before .before .before .before .put-body .kept .0)
 
 add-put-byte : tie.Need-add-put-byte
 add-put-byte c = search needs
@@ -58,11 +60,14 @@ same-length c = search needs
 returns : tie.Need-returns
 unfolding headerBytes
 returns c =
-    let a = (to-start (to-body (to-station (c .before .before)))) .args in
+    let at-station = to-station (c .before .before) in
+    let at-body = to-body at-station in
+    let at-start = to-start at-body in
+    let a = at-start .args in
     let p = a .p in
-    let long = length-body (p .body) (event-long (to-start (to-body (to-station (c .before .before))))) (omega (arith, list-long (to-start (to-body (to-station (c .before .before)))), (to-start (to-body (to-station (c .before .before)))) .pre)) in
-    let two = behind _ (26 + 7 * p .body .count) (p .station) {e = 26 + 7 * p .body .count + 8} (45 ∷ []) ((to-station (c .before .before)) .put-bytes .ensures) (omega (arith, station-long (to-start (to-body (to-station (c .before .before)))))) (c .before .before .put-byte .ensures) in
-    behind (a .out .now) 0 (bodyBytes (p .body)) {e = 26 + 7 * p .body .count} (p .station ++ (45 ∷ [])) ((to-body (to-station (c .before .before))) .put-body .ensures) (omega arith) two
+    let long = length-body (p .body) (event-long at-start) (omega (arith, list-long at-start, at-start .pre)) in
+    let two = behind _ (26 + 7 * p .body .count) (p .station) {e = 26 + 7 * p .body .count + 8} (45 ∷ []) (at-station .put-bytes .ensures) (omega (arith, station-long at-start)) (c .before .before .put-byte .ensures) in
+    behind (a .out .now) 0 (bodyBytes (p .body)) {e = 26 + 7 * p .body .count} (p .station ++ (45 ∷ [])) (at-body .put-body .ensures) (omega arith) two
 
 pub put-header-spec : {M : Type 1} → statement M
 put-header-spec =

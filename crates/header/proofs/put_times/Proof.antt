@@ -54,10 +54,13 @@ same-length c = search needs
 returns : tie.Need-returns
 unfolding timesBytes
 returns c =
-    let a = (to-plus (to-period (to-dash (c .before .before .before .before .before .before)))) .before .before .before .args in
-    let one = and (begin (a .out .now) (a .at)) (43 ∷ []) _ (a .at + 1) refl ((to-plus (to-period (to-dash (c .before .before .before .before .before .before)))) .put-byte .ensures) in
-    let two = and one (tttt (a .period)) _ (a .at + 5) (omega (arith, length-tttt (a .period))) ((to-period (to-dash (c .before .before .before .before .before .before))) .put-tttt .ensures) in
-    let three = and two (45 ∷ []) _ (a .at + 6) (omega arith) ((to-dash (c .before .before .before .before .before .before)) .put-byte2 .ensures) in
+    let at-dash = to-dash (c .before .before .before .before .before .before) in
+    let at-period = to-period at-dash in
+    let at-plus = to-plus at-period in
+    let a = at-plus .before .before .before .args in
+    let one = and (begin (a .out .now) (a .at)) (43 ∷ []) _ (a .at + 1) refl (at-plus .put-byte .ensures) in
+    let two = and one (tttt (a .period)) _ (a .at + 5) (omega (arith, length-tttt (a .period))) (at-period .put-tttt .ensures) in
+    let three = and two (45 ∷ []) _ (a .at + 6) (omega arith) (at-dash .put-byte2 .ensures) in
     let four = and three (jjjhhmm (a .day) (a .hour) (a .minute)) _ (a .at + 13) (omega (arith, length-jjjhhmm (a .day) (a .hour) (a .minute))) (c .before .before .before .before .before .before .put-jjjhhmm .ensures) in
     simp append-assoc at (c .before .before .put-byte3 .ensures ∙ goes-on four (45 ∷ []))
 

@@ -68,7 +68,9 @@ returns-2 : tie.Need-returns-2
 returns-2 c = c .refused-body2 .ensures ∙ sym (body-refused 1 _ (head-unknown _ (sym (c .before .before .before .head-of .ensures) ∙ c .before .enum-told .given .1)))
 
 locations-of-requires : tie.Need-locations-of-requires
-locations-of-requires c κs = omega (arith, length-is _ (lengthy (to-length (c .before))), few-in _ (lengthy (to-length (c .before))))
+locations-of-requires c κs =
+    let at-length = to-length (c .before) in
+    omega (arith, length-is _ (lengthy at-length), few-in _ (lengthy at-length))
 
 refused-body-requires-3 : tie.Need-refused-body-requires-3
 refused-body-requires-3 c κs = search needs
@@ -129,9 +131,14 @@ three-at-requires c κs = omega (arith, length-is _ (lengthy (to-length (to-head
 
 returns-6 : tie.Need-returns-6
 returns-6 c =
-    let e = times (to-length (to-head (to-locations (to-part (to-period (c .before .before .before .before .before)))))) in
-    body-taken _ _ _ _ _ _ _ _ (lengthy (to-length (to-head (to-locations (to-part (to-period (c .before .before .before .before .before))))))) (sym ((to-head (to-locations (to-part (to-period (c .before .before .before .before .before))))) .before .before .head-of .ensures) ∙ (to-head (to-locations (to-part (to-period (c .before .before .before .before .before))))) .originator .given .1) (c .before .three-at .ensures) ((to-locations (to-part (to-period (c .before .before .before .before .before)))) .locations-of .ensures) (not-false _ ((to-part (to-period (c .before .before .before .before .before))) .before .if2 .left))
-    (ap periodRead e ∙ sym ((to-period (c .before .before .before .before .before)) .before .before .period-of .ensures) ∙ (to-period (c .before .before .before .before .before)) .period .given .1) (ap timeRead e ∙ sym (c .before .before .before .before .before .time-of .ensures) ∙ c .before .before .before .day .given .1)
+    let at-period = to-period (c .before .before .before .before .before) in
+    let at-part = to-part at-period in
+    let at-locations = to-locations at-part in
+    let at-head = to-head at-locations in
+    let at-length = to-length at-head in
+    let e = times at-length in
+    body-taken _ _ _ _ _ _ _ _ (lengthy at-length) (sym (at-head .before .before .head-of .ensures) ∙ at-head .originator .given .1) (c .before .three-at .ensures) (at-locations .locations-of .ensures) (not-false _ (at-part .before .if2 .left))
+    (ap periodRead e ∙ sym (at-period .before .before .period-of .ensures) ∙ at-period .period .given .1) (ap timeRead e ∙ sym (c .before .before .before .before .before .time-of .ensures) ∙ c .before .before .before .day .given .1)
 
 pub read-body-spec : {M : Type 1} → statement M
 read-body-spec =

@@ -17,6 +17,12 @@ use Rattle.header.proofs.read_header.Statement.{statement}
 use Rattle.header.proofs.read_header.Tie as tie
 
 -- back from one place to another
+abbrev to-dash : tie.After-eight-at → tie.Else4
+to-dash c = c .before
+
+abbrev to-station : tie.Else4 → tie.After-station-ok
+to-station c = c .before .before .before
+
 abbrev to-front : tie.After-station-ok → tie.After-read-body
 to-front c = c .before .before .before .before
 
@@ -89,7 +95,11 @@ eight-at-requires : tie.Need-eight-at-requires
 eight-at-requires c κs = search needs
 
 returns-5 : tie.Need-returns-5
-returns-5 c = header-taken _ _ _ (front (to-front (c .before .before .before .before .before))) (c .before .before .before .before .before .before .before .if2 .left) (station (c .before .before .before .before .before) ∙ not-false _ (c .before .before .before .before .if3 .left)) (c .before .before .if4 .left) (c .before .eight-at .ensures)
+returns-5 c =
+    let at-dash = to-dash (c .before) in
+    let at-station = to-station at-dash in
+    let at-front = to-front at-station in
+    header-taken _ _ _ (front at-front) (at-station .before .before .if2 .left) (station at-station ∙ not-false _ (at-dash .before .before .if3 .left)) (at-dash .if4 .left) (c .before .eight-at .ensures)
 
 pub read-header-spec : {M : Type 1} → statement M
 read-header-spec =

@@ -64,10 +64,12 @@ returns-5 c = sym (time-refused 4 _ (ne-eqb _ _ (c .if2 .taken)))
 
 returns-6 : tie.Need-returns-6
 returns-6 c =
-    let d = ranged-yes 1 366 _ _ (sym ((to-hour (c .before .before .before)) .before .before .before .before .before .before .ranged .ensures) ∙ (to-hour (c .before .before .before)) .before .before .before .before .d .given .1) in
-    let h = ranged-yes 0 23 _ _ (sym ((to-hour (c .before .before .before)) .before .before .ranged2 .ensures) ∙ (to-hour (c .before .before .before)) .h .given .1) in
+    let at-hour = to-hour (c .before .before .before) in
+    let at-dash = to-dash at-hour in
+    let d = ranged-yes 1 366 _ _ (sym (at-hour .before .before .before .before .before .before .ranged .ensures) ∙ at-hour .before .before .before .before .d .given .1) in
+    let h = ranged-yes 0 23 _ _ (sym (at-hour .before .before .ranged2 .ensures) ∙ at-hour .h .given .1) in
     let m = ranged-yes 0 59 _ _ (sym (c .before .before .before .before .before .ranged3 .ensures) ∙ c .before .before .before .m .given .1) in
-    sym (time-taken _ _ _ _ (eq-eqb _ _ ((to-dash (to-hour (c .before .before .before))) .if1 .left), (d .0, (h .0, (m .0, (eq-eqb _ _ (c .if2 .left), tt))))) (d .1) (h .1) (m .1))
+    sym (time-taken _ _ _ _ (eq-eqb _ _ (at-dash .if1 .left), (d .0, (h .0, (m .0, (eq-eqb _ _ (c .if2 .left), tt))))) (d .1) (h .1) (m .1))
 
 pub time-of-spec : {M : Type 1} → statement M
 time-of-spec =

@@ -13,6 +13,9 @@ use Rattle.header.proofs.write_header.Statement.{statement}
 use Rattle.header.proofs.write_header.Tie as tie
 
 -- back from one place to another
+abbrev to-body : tie.After-put-header → tie.Else3
+to-body c = c .before .before
+
 abbrev to-station : tie.Else3 → tie.Else2
 to-station c = c .before .before .before
 
@@ -41,25 +44,30 @@ body-ok-requires : tie.Need-body-ok-requires
 body-ok-requires c κs = search needs
 
 returns-3 : tie.Need-returns-3
-returns-3 c = let r = write-refused _ ((to-room (c .before .before .before)) .before .before .args .p) 16 (number-parts _ _ ((to-room (c .before .before .before)) .if1 .left) (stationed (c .before .before .before)) (sym (c .before .body-ok .ensures) ∙ not-true _ (c .if3 .taken))) in (sym (r .0), sym (r .1))
+returns-3 c =
+    let at-room = to-room (c .before .before .before) in
+    let r = write-refused _ (at-room .before .before .args .p) 16 (number-parts _ _ (at-room .if1 .left) (stationed (c .before .before .before)) (sym (c .before .body-ok .ensures) ∙ not-true _ (c .if3 .taken))) in (sym (r .0), sym (r .1))
 
 put-header-requires : tie.Need-put-header-requires
 put-header-requires c κs = omega (arith, has _ (bodied (c .before)) .few, (to-room (to-station (c .before))) .if1 .left)
 
 mul-t5 : tie.Need-mul-t5
-mul-t5 c = omega (arith, has _ (bodied (c .before .before .before .before .before)) .few)
+mul-t5 c = omega (arith, has _ (bodied (to-body (c .before .before .before))) .few)
 
 add-t13 : tie.Need-add-t13
-add-t13 c = omega (arith, has _ (bodied (c .before .before .before .before .before)) .few)
+add-t13 c = omega (arith, has _ (bodied (to-body (c .before .before .before))) .few)
 
 same-length : tie.Need-same-length
 same-length c = search needs
 
 returns-4 : tie.Need-returns-4
 returns-4 c =
-    let p = (to-room (to-station (c .before .before .before .before .before))) .before .before .args .p in
-    let r = write-done ((to-room (to-station (c .before .before .before .before .before))) .before .before .args .out .now) p (number-none _ _ ((to-room (to-station (c .before .before .before .before .before))) .if1 .left) (stationed (to-station (c .before .before .before .before .before))) (bodied (c .before .before .before .before .before))) in
-    (ap (λ (n : ℕ). record { number = 0; len = n }) (sym (length-header p (bodied (c .before .before .before .before .before)) (stationed (to-station (c .before .before .before .before .before))))) ∙ sym (r .0), c .before .before .before .put-header .ensures ∙ sym (r .1))
+    let at-body = to-body (c .before .before .before) in
+    let at-station = to-station at-body in
+    let at-room = to-room at-station in
+    let p = at-room .before .before .args .p in
+    let r = write-done (at-room .before .before .args .out .now) p (number-none _ _ (at-room .if1 .left) (stationed at-station) (bodied at-body)) in
+    (ap (λ (n : ℕ). record { number = 0; len = n }) (sym (length-header p (bodied at-body) (stationed at-station))) ∙ sym (r .0), c .before .before .before .put-header .ensures ∙ sym (r .1))
 
 pub write-header-spec : {M : Type 1} → statement M
 write-header-spec =

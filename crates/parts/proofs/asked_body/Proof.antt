@@ -11,6 +11,13 @@ use Rattle.parts.specs.declared.Locations.{Locations}
 use Rattle.parts.proofs.asked_body.Statement.{statement}
 use Rattle.parts.proofs.asked_body.Tie as tie
 
+-- back from one place to another
+abbrev to-locations : tie.After-three-at → tie.After-asked-locations
+to-locations c = c .before .before .before .before
+
+abbrev to-originator : tie.After-asked-locations → tie.After-o
+to-originator c = c .before .before .before
+
 originator-numbered-requires : tie.Need-originator-numbered-requires
 originator-numbered-requires c κs = search needs
 
@@ -46,9 +53,11 @@ three-at-requires c κs = search needs
 
 returns-4 : tie.Need-returns-4
 returns-4 c =
-    let ok : sixesOk (c .before .before .before .before .before .before .before .before .before .before .before .before .args .locations .now) ≡ true = sym (ap (λ (r : Locations). r .ok) (c .before .before .before .before .asked-locations .ensures) ∙ sixes-ok-is _) ∙ not-false _ (c .before .before .if2 .left) in
-    asked-taken _ _ _ _ _ _ _ _ _ _ (sym (c .before .before .before .before .before .before .before .before .before .originator-numbered .ensures) ∙ c .before .before .before .before .before .before .before .o .given .1) (c .before .before .before .before .before .if1 .left) ok
-    (c .three-at .ensures ∙ take-all 3 _ (search needs)) (ap (λ (r : Locations). r .list) (c .before .before .before .before .asked-locations .ensures ∙ sixes-taken _ ok))
+    let at-locations = to-locations c in
+    let at-originator = to-originator at-locations in
+    let ok : sixesOk (at-originator .before .before .before .before .before .args .locations .now) ≡ true = sym (ap (λ (r : Locations). r .ok) (at-locations .asked-locations .ensures) ∙ sixes-ok-is _) ∙ not-false _ (c .before .before .if2 .left) in
+    asked-taken _ _ _ _ _ _ _ _ _ _ (sym (at-originator .before .before .originator-numbered .ensures) ∙ at-originator .o .given .1) (at-locations .before .if1 .left) ok
+    (c .three-at .ensures ∙ take-all 3 _ (search needs)) (ap (λ (r : Locations). r .list) (at-locations .asked-locations .ensures ∙ sixes-taken _ ok))
 
 pub asked-body-spec : {M : Type 1} → statement M
 asked-body-spec =
