@@ -1,15 +1,23 @@
 -- Parts of a list, and what is left of a list from an index on.
-use mathlib.Core.Path.{_≡_, refl, ap, ap₂, _∙_}
-use mathlib.Core.List.{List, [], _∷_}
-use Prim.Native.Nat.{ℕ, zero, suc, _+_, _≤_, _<_}
+use mathlib.Core.Path.{_≡_, refl, sym, ap, ap₂, _∙_}
+use mathlib.Core.List.{List, [], _∷_, _++_}
+use Prim.Native.Nat.{ℕ, zero, suc, _+_, _-_, _≤_, _<_}
 use native.Mathlib.Numerals.{add-one}
 use native.Mathlib.Omega.{arith}
-use lib.ListN.{length, take, drop, getD, length-take, length-drop, drop-of-length-le}
-use lib.Seq.{drop-cons, getD-take, getD-drop}
+use lib.ListN.{length, take, drop, getD, length-take, length-drop, take-append-drop, drop-of-length-le}
+use lib.Seq.{drop-cons, getD-take, getD-drop, drop-drop}
 use Rattle.octets.specs.Bytes.{part}
 
 pub length-part : (s : List ℕ) (at n : ℕ) → at + n ≤ length s → length (part s at n) ≡ n
 length-part s at n h = simp (length-take, length-drop) (omega arith)
+
+-- a part as the slice from at to at + n takes it
+pub sliced : (s : List ℕ) (at n : ℕ) → part s at n ≡ take (at + n - at) (drop at s)
+sliced s at n = let e : n ≡ at + n - at = omega arith in ap (λ (k : ℕ). take k (drop at s)) e
+
+-- a part, and what follows it
+pub cut : (s : List ℕ) (at n : ℕ) → drop at s ≡ part s at n ++ drop (at + n) s
+cut s at n = sym (take-append-drop n (drop at s)) ∙ ap (λ (r : List ℕ). part s at n ++ r) (drop-drop n at s)
 
 -- what is left of a list from index i on, while something is
 pub tail-step : (s : List ℕ) (i : ℕ) → i < length s → drop i s ≡ getD s i 0 ∷ drop (i + 1) s

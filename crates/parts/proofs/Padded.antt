@@ -1,0 +1,58 @@
+-- The list of locations: the first ones, and zeros behind them.
+use Prim.Native.Nat.{ℕ, zero, suc, _+_, _-_, _≤_}
+use mathlib.Core.Bool.{true}
+use mathlib.Core.List.{List, [], _∷_, _++_}
+use mathlib.Core.Path.{_≡_, refl, sym, ap, ap₂, _∙_}
+use native.Mathlib.Nat.{sub-zero, zero-sub, suc-sub-suc}
+use native.Mathlib.Omega.{arith}
+use lib.Dec.{eqb}
+use lib.ListN.{length, take, drop, replicate, length-drop, take-append-drop}
+use lib.Seq.{sets-eq, length-sets, take-at, drop-at, length-take-le}
+use borrow.Author.Tests.{eqb-true}
+use Rattle.octets.proofs.Tests.{and-left, and-right}
+use Rattle.octets.specs.Bytes.{every}
+use Rattle.parts.specs.Asked.{padded}
+use Rattle.parts.specs.Parts.{isZero, noLocations}
+
+-- ---- locations with zeros behind them
+
+pub padded-form : (ps : List ℕ) (n : ℕ) → length ps ≡ n → n ≤ 31 → padded ps ≡ ps ++ drop n noLocations
+padded-form ps n h k =
+    let fits : 0 + length ps ≤ length noLocations = omega arith in
+    let e : 0 + length ps ≡ n = omega arith in
+    sets-eq ps noLocations 0 fits ∙ ap (λ (x : ℕ). ps ++ drop x noLocations) e
+
+module _ (ps : List ℕ) (n : ℕ) (long : length ps ≡ n) (few : n ≤ 31) where
+  pub padded-first : take n (padded ps) ≡ ps
+  padded-first = ap (take n) (padded-form ps n long few) ∙ take-at ps (drop n noLocations) n long
+
+  pub padded-rest : every isZero (drop n (padded ps)) ≡ true
+  unfolding every isZero
+  padded-rest = ap (λ (l : List ℕ). every isZero (drop n l)) (padded-form ps n long few) ∙ ap (every isZero) (drop-at ps (drop n noLocations) n long) ∙ zeros-left n noLocations refl
+    where
+      zeros-left : (n : ℕ) (l : List ℕ) → every isZero l ≡ true → every isZero (drop n l) ≡ true
+      zeros-left zero l h = h
+      zeros-left (suc n) [] h = h
+      zeros-left (suc n) (x ∷ l) h = zeros-left n l (and-right (isZero x) (every isZero l) h)
+
+  pub padded-long : length (padded ps) ≡ 31
+  padded-long = length-sets noLocations 0 ps
+
+-- ---- a list that has zeros behind its first n
+
+zeros : (l : List ℕ) → every isZero l ≡ true → l ≡ replicate (length l) 0
+unfolding every isZero
+zeros [] h = refl
+zeros (x ∷ l) h = ap₂ (λ (y : ℕ) (m : List ℕ). y ∷ m) (eqb-true x 0 (and-left (eqb x 0) (every isZero l) h)) (zeros l (and-right (eqb x 0) (every isZero l) h))
+
+drop-zeros : (n m : ℕ) → drop {A = ℕ} n (replicate m 0) ≡ replicate (m - n) 0
+drop-zeros zero m = rw sub-zero
+drop-zeros (suc n) zero = rw zero-sub
+drop-zeros (suc n) (suc m) = rw suc-sub-suc (drop-zeros n m)
+
+pub padded-is : (l : List ℕ) (n : ℕ) → length l ≡ 31 → n ≤ 31 → every isZero (drop n l) ≡ true → padded (take n l) ≡ l
+padded-is l n h k z =
+    let ld : length (drop n l) ≡ 31 - n = length-drop n l ∙ ap (λ (x : ℕ). x - n) h in
+    padded-form (take n l) n (length-take-le n l (omega arith)) k
+    ∙ ap (λ (m : List ℕ). take n l ++ m) (drop-zeros n 31 ∙ ap (λ (x : ℕ). replicate x 0) (sym ld) ∙ sym (zeros (drop n l) z))
+    ∙ take-append-drop n l

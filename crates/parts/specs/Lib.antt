@@ -1,0 +1,3 @@
+pub mod Originator
+pub mod Parts
+pub mod Asked
