@@ -1,0 +1,29 @@
+-- What was put at the front of a buffer d of m bytes, which is then x, is taken from there.
+--     taken-back      the first n bytes are the run w that was put, if it fits
+--     copied-back     the same of a run that is cut to fit
+use Prim.Native.Nat.{ℕ, _+_, _-_, _≤_}
+use mathlib.Core.Path.{_≡_, sym, ap, _∙_}
+use mathlib.Core.List.{List}
+use native.Mathlib.Omega.{arith}
+use lib.ListN.{length, take, drop, length-take}
+use lib.Seq.{sets, length-sets, sets-eq, take-at}
+
+module _ (d w x : List ℕ) (m n : ℕ) (l : length d ≡ m) (p : x ≡ sets d 0 w) (e : n ≡ length w) where
+  pub put-long : length x ≡ m
+  put-long = ap length p ∙ length-sets d 0 w ∙ l
+
+  pub taken-back : n ≤ m → take (n - 0) (drop 0 x) ≡ w
+  taken-back h =
+      let f : 0 + length w ≤ length d = omega arith in
+      let q : n - 0 ≡ n = omega arith in
+      ap (λ (k : ℕ). take k x) q ∙ ap (λ (z : List ℕ). take n z) (p ∙ sets-eq w d 0 f) ∙ take-at w (drop (0 + length w) d) n (sym e)
+
+module _ (d v x : List ℕ) (m n : ℕ) (l : length d ≡ m) (p : x ≡ sets d 0 (take m v)) (e : n ≡ length (take m v)) where
+  short : n ≤ m
+  short = let k : length (take m v) ≤ m = simp length-take (omega arith) in omega arith
+
+  pub copy-fits : n ≤ length x
+  copy-fits = let k = short in let q = put-long d (take m v) x m n l p e in omega arith
+
+  pub copied-back : take (n - 0) (drop 0 x) ≡ take m v
+  copied-back = taken-back d (take m v) x m n l p e short

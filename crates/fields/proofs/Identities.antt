@@ -1,0 +1,83 @@
+-- Which runs are identities and times, and that a byte more than the longest has is enough to tell.
+--     identity-no, identity-is          a test that fails, and all of them holding
+--     identity-short, time-short        how long they are
+--     identity-cut, time-cut            the first 65 and 26 bytes are judged as the whole
+use Prim.Native.Nat.{ℕ, suc, _+_, _≤_, _<_}
+use mathlib.Core.Path.{_≡_, refl, sym, ap, _∙_}
+use mathlib.Core.Bool.{Bool, true, false, true≢false}
+use mathlib.Core.List.{List, [], _∷_}
+use native.Mathlib.Omega.{arith}
+use native.Mathlib.Decide.{decLt}
+use borrow.Author.Tests.{ne-eqb, eqb-true}
+use lib.Dec.{eqb}
+use lib.ListN.{length, take, drop, getD, length-take, drop-of-length-le}
+use lib.Seq.{take-all}
+use Rattle.octets.specs.Bytes.{every, between}
+use Rattle.octets.proofs.Parts.{tail-step}
+use Rattle.octets.proofs.Tests.{each-of, every-of, one-fails, every-step, every-stop, every-none, between-high, between-is, above-between}
+use Rattle.clock.specs.Time.{timeOf}
+use Rattle.clock.specs.declared.Time.{Time}
+use Rattle.clock.proofs.Times.{time-no}
+use Rattle.fields.specs.Fields.{isIdentity, identityOk}
+use Rattle.fields.specs.References.{isTime}
+
+-- ---- identities
+
+abbrev pub identityTests : List ℕ → List Bool
+identityTests v = between 1 64 (length v) ∷ every isIdentity v ∷ []
+
+pub identity-no : (i : ℕ) (v : List ℕ) → getD (identityTests v) i true ≡ false → identityOk v ≡ false
+unfolding identityOk
+identity-no i v h = one-fails i (identityTests v) h
+
+pub identity-is : (v : List ℕ) → 1 ≤ length v → length v ≤ 64 → every isIdentity v ≡ true → identityOk v ≡ true
+unfolding identityOk
+identity-is v l h e = every-of (identityTests v) (between-is 1 64 (length v) l h, (e, tt))
+
+pub identity-short : (v : List ℕ) → identityOk v ≡ true → length v ≤ 64
+unfolding identityOk
+identity-short v h = between-high 1 64 (length v) (each-of (identityTests v) h .0)
+
+pub identity-long : (v : List ℕ) → 64 < length v → identityOk v ≡ false
+identity-long v h = identity-no 0 v (above-between 1 64 (length v) h)
+
+-- byte by byte: what is left from index i on decides
+module _ (t : List ℕ) (i : ℕ) (so : every isIdentity (drop i t) ≡ every isIdentity t) where
+  next-byte : i < length t → every isIdentity t ≡ every isIdentity (getD t i 0 ∷ drop (i + 1) t)
+  next-byte h = sym so ∙ ap (λ (l : List ℕ). every isIdentity l) (tail-step t i h)
+
+  pub byte-fails : i < length t → isIdentity (getD t i 0) ≡ false → every isIdentity t ≡ false
+  byte-fails h e = next-byte h ∙ every-stop isIdentity (getD t i 0) (drop (i + 1) t) e
+
+  pub byte-passes : i < length t → isIdentity (getD t i 0) ≡ true → every isIdentity (drop (i + 1) t) ≡ every isIdentity t
+  byte-passes h e = sym (next-byte h ∙ every-step isIdentity (getD t i 0) (drop (i + 1) t) e)
+
+  pub bytes-end : length t ≤ i → every isIdentity t ≡ true
+  bytes-end h = sym so ∙ ap (λ (l : List ℕ). every isIdentity l) (drop-of-length-le t h) ∙ every-none isIdentity
+
+-- ---- times
+
+pub time-not : (t : List ℕ) → (length t ≡ 25 → ⊥) → timeOf t ≡ Time.Bad
+time-not t h = time-no 0 t (ne-eqb (length t) 25 h)
+
+pub time-short : (t : List ℕ) → isTime (timeOf t) ≡ true → length t ≡ 25
+time-short t h = go (eqb (length t) 25) refl
+  where
+    go : (b : Bool) → eqb (length t) 25 ≡ b → length t ≡ 25
+    go true e = eqb-true (length t) 25 e
+    go false e = let d : true ≡ false = sym h ∙ ap isTime (time-no 0 t e) in absurd (true≢false d)
+
+-- ---- a run that is too long is refused, so its first n + 1 elements are judged as the whole
+
+cut : {A : Type 0} (f : List ℕ → A) (bad : A) (n : ℕ) → ((t : List ℕ) → n < length t → f t ≡ bad) → (v : List ℕ) → f (take (suc n) v) ≡ f v
+cut f bad n long v = go (decLt n (length v))
+  where
+    go : Dec (n < length v) → f (take (suc n) v) ≡ f v
+    go (yes h) = long (take (suc n) v) (simp length-take (omega arith)) ∙ sym (long v h)
+    go (no h) = ap f (take-all (suc n) v (omega arith))
+
+pub identity-cut : (v : List ℕ) → identityOk (take 65 v) ≡ identityOk v
+identity-cut v = cut identityOk false 64 identity-long v
+
+pub time-cut : (v : List ℕ) → timeOf (take 26 v) ≡ timeOf v
+time-cut v = cut timeOf Time.Bad 25 (λ t h. time-not t (omega arith)) v

@@ -1,0 +1,23 @@
+-- The place of a value among names: the first is it, or it is not, or there are none.
+use Prim.Native.Nat.{ℕ}
+use Prim.Native.String.{String}
+use mathlib.Core.Path.{_≡_, refl, sym, _∙_}
+use mathlib.Core.Bool.{Bool, true, false}
+use mathlib.Core.List.{List, [], _∷_}
+use Rattle.octets.specs.Bytes.{same}
+use Rattle.octets.specs.Text.{bytes}
+use Rattle.fields.specs.Fields.{later, indexIn}
+
+-- r says whether the value v is the first name
+module _ (w : String) (ws : List String) (v : List ℕ) {r : Bool} (e : r ≡ same v (bytes w)) where
+  pub named : r ≡ true → indexIn (w ∷ ws) v ≡ 1
+  unfolding indexIn
+  named h = rw (sym e ∙ h)
+
+  pub not-named : r ≡ false → indexIn (w ∷ ws) v ≡ later (indexIn ws v)
+  unfolding indexIn
+  not-named h = rw (sym e ∙ h)
+
+pub none-named : (v : List ℕ) → indexIn [] v ≡ 0
+unfolding indexIn
+none-named v = refl

@@ -1,0 +1,240 @@
+// Values at a place of a message as document 01 reads them: identities, times, the values of CAP 1.2, references.
+use clock::Time;
+use values::Got;
+ghost use mathlib.Core.Path.{_≡_};
+ghost use mathlib.Core.List.{[], _∷_};
+ghost use Prim.Native.Nat.{_+_};
+ghost use lib.ListN.{length, drop};
+ghost use lib.Seq.{sets};
+ghost use Rattle.clock.specs.Time.{timeOf};
+ghost use Rattle.values.specs.Value.{valueAt};
+ghost use Rattle.fields.specs.Fields.{isIdentity, identityOk, indexIn, statuses, msgTypes, scopes};
+ghost use Rattle.fields.specs.References.{upTo, groupOk, referencesOk};
+ghost use Rattle.fields.specs.Words.{wordIn, wordAt};
+
+// A word of a value: how many characters it has, whether another follows, and where that begins.
+pub struct Word {
+    pub len: usize,
+    pub next: usize,
+    pub more: bool,
+}
+
+// ---- sender and identifier
+
+fn is_identity_byte(b: u8) -> bool
+    ensures { λ r. ⌜ r ≡ isIdentity b ⌝ }
+{
+    if b == 44 {
+        return false;
+    }
+    if b == 60 {
+        return false;
+    }
+    if b == 38 {
+        return false;
+    }
+    octets::is_visible(b)
+}
+
+// Whether t is a sender or an identifier.
+pub fn is_identity(t: &[u8]) -> bool
+    ensures { λ r. ⌜ r ≡ identityOk (now (t .entry)) ⌝ }
+{
+    if t.len() == 0 {
+        return false;
+    }
+    if 64 < t.len() {
+        return false;
+    }
+    let mut i: usize = 0;
+    while i < t.len() {
+        if !is_identity_byte(t[i]) {
+            return false;
+        }
+        i += 1;
+    }
+    true
+}
+
+pub fn identity_at(s: &[u8], at: usize) -> bool
+    ensures { λ r. ⌜ r ≡ identityOk (valueAt (now (s .entry)) at) ⌝ }
+{
+    let mut b = [0u8; 65];
+    let n = values::copy(s, at, 65, &mut b, 0);
+    is_identity(&b[0..n])
+}
+
+// ---- times
+
+pub fn time_at(s: &[u8], at: usize) -> Time
+    ensures { λ r. ⌜ r ≡ timeOf (valueAt (now (s .entry)) at) ⌝ }
+{
+    let mut b = [0u8; 26];
+    let n = values::copy(s, at, 26, &mut b, 0);
+    clock::instant(&b[0..n])
+}
+
+// ---- the values of CAP 1.2, counted from 1; 0 for any other
+
+pub fn status_at(s: &[u8], at: usize) -> u32
+    ensures { λ r. ⌜ r ≡ indexIn statuses (valueAt (now (s .entry)) at) ⌝ }
+{
+    if values::equal(s, at, b"Actual") {
+        return 1;
+    }
+    if values::equal(s, at, b"Exercise") {
+        return 2;
+    }
+    if values::equal(s, at, b"System") {
+        return 3;
+    }
+    if values::equal(s, at, b"Test") {
+        return 4;
+    }
+    if values::equal(s, at, b"Draft") {
+        return 5;
+    }
+    0
+}
+
+pub fn msg_type_at(s: &[u8], at: usize) -> u32
+    ensures { λ r. ⌜ r ≡ indexIn msgTypes (valueAt (now (s .entry)) at) ⌝ }
+{
+    if values::equal(s, at, b"Alert") {
+        return 1;
+    }
+    if values::equal(s, at, b"Update") {
+        return 2;
+    }
+    if values::equal(s, at, b"Cancel") {
+        return 3;
+    }
+    if values::equal(s, at, b"Ack") {
+        return 4;
+    }
+    if values::equal(s, at, b"Error") {
+        return 5;
+    }
+    0
+}
+
+pub fn scope_at(s: &[u8], at: usize) -> u32
+    ensures { λ r. ⌜ r ≡ indexIn scopes (valueAt (now (s .entry)) at) ⌝ }
+{
+    if values::equal(s, at, b"Public") {
+        return 1;
+    }
+    if values::equal(s, at, b"Restricted") {
+        return 2;
+    }
+    if values::equal(s, at, b"Private") {
+        return 3;
+    }
+    0
+}
+
+// ---- a group: sender, identifier and sent, parted by commas
+
+// Where the first comma stands from `at` on; the end where there is none.
+pub fn comma(t: &[u8], at: usize) -> usize
+    ensures { λ r. ⌜ r ≡ at + length (upTo 44 (drop at (now (t .entry)))) ⌝ }
+{
+    let mut i = at;
+    while i < t.len() {
+        if t[i] == 44 {
+            return i;
+        }
+        i += 1;
+    }
+    i
+}
+
+// Whether t is a group.
+pub fn is_group(t: &[u8]) -> bool
+    ensures { λ r. ⌜ r ≡ groupOk (now (t .entry)) ⌝ }
+{
+    let a = comma(t, 0);
+    if a == t.len() {
+        return false;
+    }
+    let b = comma(t, a + 1);
+    if b == t.len() {
+        return false;
+    }
+    if !is_identity(&t[0..a]) {
+        return false;
+    }
+    if !is_identity(&t[a + 1..b]) {
+        return false;
+    }
+    let sent = clock::instant(&t[b + 1..]);
+    match sent {
+        Time::At(_) => true,
+        Time::Bad => false,
+    }
+}
+
+// ---- references: groups parted by space
+
+// Puts a character at k, where there is room for it.
+fn keep(out: &mut [u8], k: usize, c: u8)
+    ensures { λ _. ⌜ now (out .exit) ≡ sets (now (out .entry)) k (c ∷ []) ⌝ }
+{
+    if k < out.len() {
+        out[k] = c;
+    }
+}
+
+// The next word of a value from a place in it; as much of it as there is room for is put into `out`.
+pub fn next_word(s: &[u8], at: usize, out: &mut [u8]) -> Word
+    ensures { λ r. ⌜ r ≡ wordAt (now (s .entry)) at ⌝ }
+    ensures { λ _. ⌜ now (out .exit) ≡ sets (now (out .entry)) 0 (wordIn (now (s .entry)) at) ⌝ }
+{
+    let mut i = at;
+    let mut k: usize = 0;
+    loop {
+        let g = values::step(s, i);
+        let Got::Is(c, j) = g else {
+            return Word {
+                len: k,
+                next: s.len(),
+                more: false,
+            };
+        };
+        if c == 32 {
+            return Word {
+                len: k,
+                next: j,
+                more: true,
+            };
+        }
+        keep(out, k, c);
+        i = j;
+        k += 1;
+    }
+}
+
+// Whether the value is 1 to 16 groups parted by space; a group has 155 bytes at most.
+pub fn references_at(s: &[u8], at: usize) -> bool
+    ensures { λ r. ⌜ r ≡ referencesOk (valueAt (now (s .entry)) at) ⌝ }
+{
+    let mut i = values::lead(s, at);
+    let mut left: u32 = 16;
+    while 0 < left {
+        let mut b = [0u8; 155];
+        let w = next_word(s, i, &mut b);
+        let n = w.len;
+        if 155 < n {
+            return false;
+        }
+        if !is_group(&b[0..n]) {
+            return false;
+        }
+        if !w.more {
+            return true;
+        }
+        i = w.next;
+        left -= 1;
+    }
+    false
+}

@@ -1,0 +1,103 @@
+-- The words before and behind, and between them the scan; what stands lies inside.
+use Prim.Native.Nat.{ℕ, _+_, _≤_}
+use mathlib.Core.Path.{_≡_, sym, ap, _∙_}
+use mathlib.Core.Bool.{true, false}
+use mathlib.Core.List.{[], _∷_}
+use native.Mathlib.Omega.{arith}
+use denote.Ref.{now}
+use lib.ListN.{length}
+use lib.Dec.{lit<}
+use borrow.Author.Tests.{not-true, not-false}
+use borrow.Author.Needs.{needs}
+use Rattle.octets.specs.Bytes.{byteAt, stands, isSpace}
+use Rattle.octets.specs.Scan.{scan}
+use Rattle.octets.specs.Text.{bytes}
+use Rattle.octets.proofs.Sames.{stands-in}
+use Rattle.pieces.specs.declared.End.the-variants.{At}
+use Rattle.markup.specs.Document.{inDeclaration, declarationAt}
+use Rattle.markup.proofs.declaration.Statement.{statement}
+use Rattle.markup.proofs.declaration.Tie as tie
+
+slice-aggregate-stands-at : tie.Need-slice-aggregate-stands-at
+slice-aggregate-stands-at c = search needs
+
+stands-at-requires : tie.Need-stands-at-requires
+stands-at-requires c κs = search needs
+
+returns : tie.Need-returns
+unfolding declarationAt bytes
+returns c =
+    let s = now (c .before .before .before .before .args .s) in
+    let y : stands (60 ∷ 63 ∷ 120 ∷ 109 ∷ 108 ∷ []) s 0 ≡ false = sym (c .before .stands-at .ensures) ∙ not-true _ (c .if1 .taken) in
+    rw y
+
+byte-requires : tie.Need-byte-requires
+byte-requires c κs = search needs
+
+is-space-requires : tie.Need-is-space-requires
+is-space-requires c κs = search needs
+
+returns-2 : tie.Need-returns-2
+unfolding declarationAt bytes
+returns-2 c =
+    let s = now (c .before .before .before .before .before .before .before .args .s) in
+    let y : stands (60 ∷ 63 ∷ 120 ∷ 109 ∷ 108 ∷ []) s 0 ≡ true = sym (c .before .before .before .before .stands-at .ensures) ∙ not-false _ (c .before .before .before .if1 .left) in
+    let b : isSpace (byteAt s 5) ≡ false = sym (c .before .is-space .ensures ∙ ap isSpace (c .before .before .byte .ensures)) ∙ not-true _ (c .if2 .taken) in
+    rw (y, b)
+
+declaration-end-requires : tie.Need-declaration-end-requires
+declaration-end-requires c κs = search needs
+
+slice-aggregate-stands-at-2 : tie.Need-slice-aggregate-stands-at-2
+slice-aggregate-stands-at-2 c = search needs
+
+stands-at-requires-2 : tie.Need-stands-at-requires-2
+stands-at-requires-2 c κs = search needs
+
+add-t14 : tie.Need-add-t14
+add-t14 c =
+    let s = now (c .before .before .before .before .before .before .before .before .before .before .before .args .s) in
+    let e = scan (inDeclaration s) (length s) 6 in
+    let g : c .before .before .before .declaration-end .result ≡ e = c .before .before .before .declaration-end .ensures in
+    let z : stands (63 ∷ 62 ∷ []) s e ≡ true = ap (stands (63 ∷ 62 ∷ []) s) (sym g) ∙ sym (c .before .stands-at2 .ensures) ∙ c .if3 .taken in
+    let h : e + 2 ≤ length s = stands-in (63 ∷ 62 ∷ []) s e z (lit< tt) in
+    omega arith
+
+returns-3 : tie.Need-returns-3
+unfolding declarationAt bytes
+returns-3 c =
+    let s = now (c .before .before .before .before .before .before .before .before .before .before .before .args .s) in
+    let y : stands (60 ∷ 63 ∷ 120 ∷ 109 ∷ 108 ∷ []) s 0 ≡ true = sym (c .before .before .before .before .before .before .before .before .stands-at .ensures) ∙ not-false _ (c .before .before .before .before .before .before .before .if1 .left) in
+    let b : isSpace (byteAt s 5) ≡ true = sym (c .before .before .before .before .before .is-space .ensures ∙ ap isSpace (c .before .before .before .before .before .before .byte .ensures)) ∙ not-false _ (c .before .before .before .before .if2 .left) in
+    let e = scan (inDeclaration s) (length s) 6 in
+    let g : c .before .before .before .declaration-end .result ≡ e = c .before .before .before .declaration-end .ensures in
+    let z : stands (63 ∷ 62 ∷ []) s e ≡ true = ap (stands (63 ∷ 62 ∷ []) s) (sym g) ∙ sym (c .before .stands-at2 .ensures) ∙ c .if3 .taken in
+    rw (y, b, z) (ap (λ (x : ℕ). At (x + 2)) g)
+
+returns-4 : tie.Need-returns-4
+unfolding declarationAt bytes
+returns-4 c =
+    let s = now (c .before .before .before .before .before .before .before .before .before .before .before .args .s) in
+    let y : stands (60 ∷ 63 ∷ 120 ∷ 109 ∷ 108 ∷ []) s 0 ≡ true = sym (c .before .before .before .before .before .before .before .before .stands-at .ensures) ∙ not-false _ (c .before .before .before .before .before .before .before .if1 .left) in
+    let b : isSpace (byteAt s 5) ≡ true = sym (c .before .before .before .before .before .is-space .ensures ∙ ap isSpace (c .before .before .before .before .before .before .byte .ensures)) ∙ not-false _ (c .before .before .before .before .if2 .left) in
+    let e = scan (inDeclaration s) (length s) 6 in
+    let g : c .before .before .before .declaration-end .result ≡ e = c .before .before .before .declaration-end .ensures in
+    let z : stands (63 ∷ 62 ∷ []) s e ≡ false = ap (stands (63 ∷ 62 ∷ []) s) (sym g) ∙ sym (c .before .stands-at2 .ensures) ∙ c .if3 .left in
+    rw (y, b, z)
+
+pub declaration-spec : {M : Type 1} → statement M
+declaration-spec =
+    tie.close
+    (tie.spec
+    slice-aggregate-stands-at
+    stands-at-requires
+    returns
+    byte-requires
+    is-space-requires
+    returns-2
+    declaration-end-requires
+    slice-aggregate-stands-at-2
+    stands-at-requires-2
+    add-t14
+    returns-3
+    returns-4)

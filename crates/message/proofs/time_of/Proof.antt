@@ -1,0 +1,24 @@
+-- A leaf that is not the only one is none; else its value decides.
+use mathlib.Core.Path.{sym, _∙_}
+use borrow.Author.Tests.{not-true, not-false}
+use Rattle.message.specs.Judged.{timed}
+use borrow.Author.Needs.{needs}
+use Rattle.message.proofs.time_of.Statement.{statement}
+use Rattle.message.proofs.time_of.Tie as tie
+
+is-only-requires : tie.Need-is-only-requires
+is-only-requires c κs = search needs
+
+returns : tie.Need-returns
+unfolding timed
+returns c = rw (sym (c .before .is-only .ensures) ∙ not-true _ (c .if1 .taken))
+
+time-at-requires : tie.Need-time-at-requires
+time-at-requires c κs = search needs
+
+returns-2 : tie.Need-returns-2
+unfolding timed
+returns-2 c = rw (sym (c .before .before .is-only .ensures) ∙ not-false _ (c .before .if1 .left)) (c .time-at .ensures)
+
+pub time-of-spec : {M : Type 1} → statement M
+time-of-spec = tie.close (tie.spec is-only-requires returns time-at-requires returns-2)

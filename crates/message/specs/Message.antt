@@ -1,0 +1,48 @@
+-- A message as document 01 reads and judges it, up to number 10.
+use Prim.Native.Nat.{ℕ, _+_}
+use mathlib.Core.Bool.{Bool, true, false}
+use mathlib.Core.List.{List}
+use lib.ListN.{length}
+use Rattle.octets.specs.Bytes.{pick, between}
+use Rattle.markup.specs.Tree.{Tag, Forest, One, one, none, elemAt}
+use Rattle.markup.specs.Document.{miscAt, rooted, rootAt, docAt}
+use Rattle.reads.specs.Leaves.{fresh}
+use Rattle.reads.specs.declared.Alert.{Alert}
+use Rattle.reads.specs.declared.Context.{Context}
+use Rattle.reads.specs.declared.Context.the-variants.{Root, Skipped}
+use Rattle.gather.specs.Read.{alertOf}
+use Rattle.message.specs.Root.{prefixOf, rootOk}
+use Rattle.message.specs.Judged.{leafAt, timed, msgTypeOf, fieldOf, numberOf, instantIn}
+use Rattle.message.specs.declared.Message.{Message}
+
+-- a refusal returns its number, zeros elsewhere
+abbrev pub refusedAs : ℕ → ℕ → Message
+refusedAs n number = record { number = number; field = 0; kind = 0; sent = 0; alert = fresh n .alert }
+
+-- what is read in an alert, with its number; kind is the msgType's: 1 Alert, 2 Update, 3 Cancel, 4 Ack, 5 Error
+unfoldable pub judged : List ℕ → Alert → Message
+judged s a = record {
+  number = numberOf s a;
+  field = fieldOf s a;
+  kind = msgTypeOf s a;
+  sent = instantIn (timed s (leafAt 2 a));
+  alert = a;
+}
+
+-- 5 not of the subset; 6 root
+unfoldable pub passed : List ℕ → List ℕ → Bool → One → Message
+passed s p ok none = refusedAs (length s) 5
+passed s p ok (one g kids e) = pick ok (judged s (alertOf s p kids)) (refusedAs (length s) 6)
+
+-- every other element is skipped whole: all that is in a root that is not accepted
+unfoldable pub rootContext : Bool → Context
+rootContext true = Root
+rootContext false = Skipped
+
+unfoldable pub ofRoot : List ℕ → One → Message
+ofRoot s none = refusedAs (length s) 5
+ofRoot s (one g kids e) = passed s (prefixOf s (g .from + 1) (g .name)) (rootOk s (g .from + 1) (g .name)) (one g kids e)
+
+-- 4 message length: 1 to 32,768 bytes
+unfoldable pub messageOf : List ℕ → Message
+messageOf s = pick (between 1 32768 (length s)) (ofRoot s (docAt s)) (refusedAs (length s) 4)

@@ -1,0 +1,5 @@
+pub mod Words
+pub mod Inside
+pub mod Numerals
+pub mod Goes
+pub mod Walks

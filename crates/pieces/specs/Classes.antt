@@ -1,0 +1,38 @@
+-- The classes of bytes of document 01, "Reading the message", beside those of octets.
+use Prim.Native.Nat.{ℕ, _-_}
+use mathlib.Core.Bool.{Bool, _&&_, _||_, not}
+use mathlib.Core.List.{[], _∷_}
+use lib.Dec.{eqb, ltb}
+use Rattle.octets.specs.Bytes.{pick, between, oneOf, isDigit, isLetter, isSpace, isVisible}
+
+-- white space is 9, 10, 13, 32; elsewhere only these and 33 to 126 may stand
+unfoldable pub mayStand : ℕ → Bool
+mayStand b = isSpace b || isVisible b
+
+-- letter or `_`
+unfoldable pub isStart : ℕ → Bool
+isStart b = isLetter b || eqb b 95
+
+-- letters, digits, `_`, `-`, `.`
+unfoldable pub isNamed : ℕ → Bool
+isNamed b = isLetter b || isDigit b || oneOf (95 ∷ 45 ∷ 46 ∷ []) b
+
+-- a byte that stands for itself in text and in a value: neither `<` nor `&`
+unfoldable pub isPlain : ℕ → Bool
+isPlain b = mayStand b && not (oneOf (60 ∷ 38 ∷ []) b)
+
+-- such a byte that begins no `]]>`
+unfoldable pub isRun : ℕ → Bool
+isRun b = isPlain b && not (eqb b 93)
+
+-- a byte of a comment that begins no `--`
+unfoldable pub isQuiet : ℕ → Bool
+isQuiet b = mayStand b && not (eqb b 45)
+
+-- what a decimal or hexadecimal digit counts, in either letter case; 16 where it is none
+unfoldable pub figureOf : ℕ → ℕ
+figureOf b = pick (isDigit b) (b - 48) (pick (between 65 70 b) (b - 55) (pick (between 97 102 b) (b - 87) 16))
+
+-- a digit of the base
+unfoldable pub isFigure : ℕ → ℕ → Bool
+isFigure base b = ltb (figureOf b) base

@@ -1,0 +1,47 @@
+-- The rows are tried in their order, and the first that has the name decides.
+use Prim.Native.Nat.{ℕ}
+use mathlib.Core.Path.{refl}
+use denote.Ref.{now}
+use lib.ListN.{drop}
+use borrow.Author.Needs.{needs}
+use Rattle.octets.specs.Text.{bytes}
+use Rattle.reads.specs.Names.{among, inLater}
+use Rattle.reads.proofs.Rows.{Left, next-row, row-is, no-row}
+use Rattle.reads.proofs.later_context.Statement.{statement}
+use Rattle.reads.proofs.later_context.Tie as tie
+
+-- the first k rows do not have the name
+abbrev Passed : tie.Start → ℕ → Type 0
+Passed c k = let w = now (c .args .name) in Left (among inLater w) (drop k inLater) w
+
+passed-0 : (c : tie.Start) → Passed c 0
+passed-0 c = record { says = refl }
+
+abbrev start-1 : tie.Else1 → tie.Start
+start-1 c = c .before .before .before .before
+
+passed-1 : (c : tie.Else1) → Passed (start-1 c) 1
+unfolding bytes
+passed-1 c = next-row (passed-0 (start-1 c)) (c .before .equal .ensures) (c .if1 .left)
+
+slice-aggregate-equal : tie.Need-slice-aggregate-equal
+slice-aggregate-equal c = search needs
+
+equal-requires : tie.Need-equal-requires
+equal-requires c κs = search needs
+
+returns : tie.Need-returns
+unfolding bytes
+returns c = row-is (passed-0 (c .before .before .before .before)) (c .before .equal .ensures) (c .if1 .taken)
+
+returns-2 : tie.Need-returns-2
+returns-2 c = no-row (passed-1 c)
+
+pub later-context-spec : {M : Type 1} → statement M
+later-context-spec =
+    tie.close
+    (tie.spec
+    slice-aggregate-equal
+    equal-requires
+    returns
+    returns-2)

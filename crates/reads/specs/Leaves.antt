@@ -1,0 +1,53 @@
+-- Leaves as they are found, and nothing found yet.
+use Prim.Native.Nat.{ℕ}
+use mathlib.Core.Bool.{Bool, true, false, not}
+use mathlib.Core.List.{List, [], _∷_}
+use lib.ListN.{replicate}
+use lib.Dec.{eqb, leb}
+use Rattle.octets.specs.Bytes.{pick, every, holds}
+use Rattle.reads.specs.declared.Leaf.{Leaf}
+use Rattle.reads.specs.declared.Info.{Info}
+use Rattle.reads.specs.declared.State.{State}
+
+-- a leaf that is absent from a message of n bytes: its value, at the message's end, is empty
+abbrev pub blank : ℕ → Leaf
+blank n = record { count = 0; at = n; holds = false }
+
+-- one of them holds an element
+abbrev pub marked : Leaf → Leaf
+marked l = record { count = l .count; at = l .at; holds = true }
+
+-- one more stands: the first one's place is kept, and more than two count as two
+abbrev pub found : Leaf → ℕ → Leaf
+found l at = record { count = pick (eqb (l .count) 0) 1 2; at = pick (eqb (l .count) 0) at (l .at); holds = l .holds }
+
+-- a leaf that is read and repeated, or holds an element, is fault 7
+unfoldable pub soundOf : Leaf → Bool
+soundOf l = every holds (leb (l .count) 1 ∷ not (l .holds) ∷ [])
+
+-- so is a valueName or value missing in a read eventCode, parameter or geocode
+unfoldable pub pairOk : Leaf → Leaf → Bool
+pairOk name value = every holds (not (eqb (name .count) 0) ∷ not (eqb (value .count) 0) ∷ soundOf name ∷ soundOf value ∷ [])
+
+-- nothing of an info
+abbrev pub noInfo : ℕ → Info
+noInfo n = record {
+  leaf = blank n ∷ blank n ∷ blank n ∷ blank n ∷ blank n ∷ [];
+  events = record { same = blank n; fault = false };
+  parameters = record { originator = blank n; text = blank n; carry = blank n; fault = false };
+  locations = record { count = 0; list = replicate 31 0; bad = false; fault = false };
+  audio = record { number = 0; uri = n; fault = false };
+}
+
+-- nothing of a message of n bytes
+abbrev pub fresh : ℕ → State
+fresh n = record {
+  alert = record {
+    leaf = blank n ∷ blank n ∷ blank n ∷ blank n ∷ blank n ∷ blank n ∷ blank n ∷ [];
+    kept = 0;
+    info = noInfo n;
+    fault = false;
+  };
+  info = noInfo n;
+  pair = blank n ∷ blank n ∷ [];
+}

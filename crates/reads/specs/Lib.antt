@@ -1,0 +1,3 @@
+pub mod Leaves
+pub mod Names
+pub mod Steps

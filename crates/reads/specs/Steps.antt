@@ -1,0 +1,99 @@
+-- What an eventCode, a parameter, a geocode, a resource and an info add to what has been read. n is a place, whose value is valueAt s n.
+use Prim.Native.Nat.{ℕ, _+_}
+use mathlib.Core.Bool.{Bool, true, false, _&&_, _||_, not}
+use mathlib.Core.List.{List, [], _∷_, map}
+use lib.ListN.{length, getD, set}
+use lib.Dec.{eqb, leb, ltb}
+use Rattle.octets.specs.Bytes.{pick, between, same}
+use Rattle.octets.specs.Text.{bytes}
+use Rattle.octets.specs.declared.Num.{Num}
+use Rattle.octets.specs.declared.Num.the-variants.{Value, Bad}
+use Rattle.values.specs.Value.{valueAt, small, sixDigits}
+use Rattle.reads.specs.declared.Leaf.{Leaf}
+use Rattle.reads.specs.declared.Events.{Events}
+use Rattle.reads.specs.declared.Parameters.{Parameters}
+use Rattle.reads.specs.declared.Locations.{Locations}
+use Rattle.reads.specs.declared.Audio.{Audio}
+use Rattle.reads.specs.declared.Info.{Info}
+use Rattle.reads.specs.declared.Alert.{Alert}
+use Rattle.reads.specs.Leaves.{blank, marked, found, soundOf, pairOk}
+
+-- the value at n is this text
+abbrev pub says : List ℕ → ℕ → List ℕ → Bool
+says s n w = same (valueAt s n) w
+
+-- an eventCode: valueName SAME
+unfoldable pub eventStep : List ℕ → Events → Leaf → Leaf → Events
+eventStep s e name value =
+    pick (pairOk name value)
+    (pick (says s (name .at) (bytes "SAME")) (record { same = found (e .same) (value .at); fault = e .fault }) e)
+    (record { same = e .same; fault = true })
+
+-- a parameter: EAS-ORG, EASText, EAS-Must-Carry
+unfoldable pub parameterStep : List ℕ → Parameters → Leaf → Leaf → Parameters
+parameterStep s e name value =
+    pick (pairOk name value)
+    (pick (says s (name .at) (bytes "EAS-ORG"))
+    (record { originator = found (e .originator) (value .at); text = e .text; carry = e .carry; fault = e .fault })
+    (pick (says s (name .at) (bytes "EASText"))
+    (record { originator = e .originator; text = found (e .text) (value .at); carry = e .carry; fault = e .fault })
+    (pick (says s (name .at) (bytes "EAS-Must-Carry"))
+    (record { originator = e .originator; text = e .text; carry = found (e .carry) (value .at); fault = e .fault })
+    e)))
+    (record { originator = e .originator; text = e .text; carry = e .carry; fault = true })
+
+-- the first 31 in message order are placed, repeats kept
+unfoldable pub placed : Locations → ℕ → Locations
+placed e v =
+    pick (leb 31 (e .count)) e
+    (record { count = e .count + 1; list = set (e .list) (e .count) v; bad = e .bad; fault = e .fault })
+
+abbrev pub locationOf : Locations → Num → Locations
+locationOf e (Value v) = placed e v
+locationOf e Bad = record { count = e .count; list = e .list; bad = true; fault = e .fault }
+
+-- a geocode: every one named SAME must be six digits
+unfoldable pub locationStep : List ℕ → Locations → Leaf → Leaf → Locations
+locationStep s e name value =
+    pick (pairOk name value)
+    (pick (says s (name .at) (bytes "SAME")) (locationOf e (sixDigits (valueAt s (value .at)))) e)
+    (record { count = e .count; list = e .list; bad = e .bad; fault = true })
+
+-- mimeType `audio/x-ipaws-audio-mp3` (1), `audio/x-ipaws-audio-wav` (2) or `audio/x-ipaws-streaming-audio-mp3` (3); any other 0
+unfoldable pub audioOf : List ℕ → ℕ → ℕ
+audioOf s n =
+    pick (says s n (bytes "audio/x-ipaws-audio-mp3")) 1
+    (pick (says s n (bytes "audio/x-ipaws-audio-wav")) 2
+    (pick (says s n (bytes "audio/x-ipaws-streaming-audio-mp3")) 3 0))
+
+-- and a uri of 1 to 1,024 bytes
+abbrev pub isAudio : List ℕ → Leaf → Leaf → Bool
+isAudio s mime uri = not (eqb (audioOf s (mime .at)) 0) && between 1 1024 (length (valueAt s (uri .at)))
+
+-- a resource: the first that is audio is chosen
+unfoldable pub audioStep : List ℕ → Audio → Leaf → Leaf → Audio
+audioStep s e mime uri =
+    pick (soundOf mime && soundOf uri)
+    (pick (eqb (e .number) 0 && isAudio s mime uri) (record { number = audioOf s (mime .at); uri = uri .at; fault = e .fault }) e)
+    (record { number = e .number; uri = e .uri; fault = true })
+
+-- a language that is absent, empty or `en-US` in any letter case
+unfoldable pub english : List ℕ → Leaf → Bool
+english s language = says s (language .at) [] || same (map small (valueAt s (language .at))) (bytes "en-us")
+
+abbrev pub languageOf : Info → Leaf
+languageOf i = getD (i .leaf) 0 (blank 0)
+
+abbrev pub languageFault : Alert → Info → Bool
+languageFault a i = a .fault || not (soundOf (languageOf i))
+
+-- the first info of such a language is selected; if none, the first
+unfoldable pub infoStep : List ℕ → Alert → Info → Alert
+infoStep s a i =
+    pick (english s (languageOf i)) (record { leaf = a .leaf; kept = 2; info = i; fault = languageFault a i })
+    (pick (eqb (a .kept) 0) (record { leaf = a .leaf; kept = 1; info = i; fault = languageFault a i })
+    (record { leaf = a .leaf; kept = a .kept; info = a .info; fault = languageFault a i }))
+
+-- only it is judged further, apart from language, which is read in each
+unfoldable pub laterStep : Alert → Info → Alert
+laterStep a i = record { leaf = a .leaf; kept = a .kept; info = a .info; fault = languageFault a i }

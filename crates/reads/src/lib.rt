@@ -1,0 +1,582 @@
+// What document 01 reads in a message: the leaves and where they stand, what each element adds, and which elements are read where.
+use octets::Num;
+ghost use mathlib.Core.Path.{_≡_};
+ghost use mathlib.Core.Bool.{_||_};
+ghost use Prim.Native.Nat.{_≤_};
+ghost use lib.ListN.{length};
+ghost use Rattle.reads.specs.Leaves.{blank, marked, found, soundOf, pairOk, noInfo, fresh};
+ghost use Rattle.reads.specs.Names.{localAt, alertContext, infoContext, laterContext, pairContext, resourceContext, areaContext, contextOf};
+ghost use Rattle.reads.specs.Steps.{eventStep, parameterStep, placed, locationStep, audioOf, audioStep, english, infoStep, laterStep};
+
+// A leaf: how often it stands (0, 1, and 2 for more), where the value of the first begins, and whether one of them holds an element.
+pub struct Leaf {
+    pub count: u32,
+    pub at: usize,
+    pub holds: bool,
+}
+
+// The eventCodes: those named SAME; and whether one is at fault.
+pub struct Events {
+    pub same: Leaf,
+    pub fault: bool,
+}
+
+// The parameters: those named EAS-ORG, EASText and EAS-Must-Carry; and whether one is at fault.
+pub struct Parameters {
+    pub originator: Leaf,
+    pub text: Leaf,
+    pub carry: Leaf,
+    pub fault: bool,
+}
+
+// The geocodes named SAME: the first 31 that are six digits, zeros behind them; whether one is not; and whether a geocode is at fault.
+pub struct Locations {
+    pub count: usize,
+    pub list: [u32; 31],
+    pub bad: bool,
+    pub fault: bool,
+}
+
+// The audio choice of the resources: its number, and where its uri begins; and whether a resource is at fault.
+pub struct Audio {
+    pub number: u32,
+    pub uri: usize,
+    pub fault: bool,
+}
+
+// What is read in an info. Its leaves: language, expires, senderName, description, instruction.
+pub struct Info {
+    pub leaf: [Leaf; 5],
+    pub events: Events,
+    pub parameters: Parameters,
+    pub locations: Locations,
+    pub audio: Audio,
+}
+
+// What is read in an alert. Its leaves: identifier, sender, sent, status, msgType, scope, references. Of the infos one is kept: none yet (0), the first
+// (1), or the one that is selected (2); and whether the language of one is at fault.
+pub struct Alert {
+    pub leaf: [Leaf; 7],
+    pub kept: u32,
+    pub info: Info,
+    pub fault: bool,
+}
+
+// The alert so far, the info that is being read, and the two leaves of the eventCode, parameter, geocode or resource that is.
+pub struct State {
+    pub alert: Alert,
+    pub info: Info,
+    pub pair: [Leaf; 2],
+}
+
+// The element whose content is being read.
+pub enum Context {
+    Root,
+    Alert,
+    Info,
+    Later,
+    EventCode,
+    Parameter,
+    Resource,
+    Area,
+    Geocode,
+    AlertLeaf(usize),
+    InfoLeaf(usize),
+    PairLeaf(usize),
+    Skipped,
+}
+
+// ---- nothing found yet, in a message of n bytes: what is absent stands at its end
+
+pub fn no_leaf(n: usize) -> Leaf
+    ensures { λ r. ⌜ r ≡ blank n ⌝ }
+{
+    Leaf {
+        count: 0,
+        at: n,
+        holds: false,
+    }
+}
+
+pub fn no_info(n: usize) -> Info
+    ensures { λ r. ⌜ r ≡ noInfo n ⌝ }
+{
+    let l = no_leaf(n);
+    Info {
+        leaf: [l, l, l, l, l],
+        events: Events {
+            same: l,
+            fault: false,
+        },
+        parameters: Parameters {
+            originator: l,
+            text: l,
+            carry: l,
+            fault: false,
+        },
+        locations: Locations {
+            count: 0,
+            list: [0u32; 31],
+            bad: false,
+            fault: false,
+        },
+        audio: Audio {
+            number: 0,
+            uri: n,
+            fault: false,
+        },
+    }
+}
+
+pub fn new_state(n: usize) -> State
+    ensures { λ r. ⌜ r ≡ fresh n ⌝ }
+{
+    let l = no_leaf(n);
+    let i = no_info(n);
+    State {
+        alert: Alert {
+            leaf: [l, l, l, l, l, l, l],
+            kept: 0,
+            info: i,
+            fault: false,
+        },
+        info: i,
+        pair: [l, l],
+    }
+}
+
+// ---- leaves
+
+// One more, whose value begins at `at`.
+pub fn find(l: Leaf, at: usize) -> Leaf
+    ensures { λ r. ⌜ r ≡ found l at ⌝ }
+{
+    if l.count == 0 {
+        return Leaf {
+            count: 1,
+            at: at,
+            holds: l.holds,
+        };
+    }
+    Leaf {
+        count: 2,
+        at: l.at,
+        holds: l.holds,
+    }
+}
+
+pub fn mark(l: Leaf) -> Leaf
+    ensures { λ r. ⌜ r ≡ marked l ⌝ }
+{
+    Leaf {
+        count: l.count,
+        at: l.at,
+        holds: true,
+    }
+}
+
+// Neither repeated nor holding an element.
+pub fn is_sound(l: Leaf) -> bool
+    ensures { λ r. ⌜ r ≡ soundOf l ⌝ }
+{
+    if 1 < l.count {
+        return false;
+    }
+    !l.holds
+}
+
+// valueName and value: each there, and sound.
+pub fn is_pair(name: Leaf, value: Leaf) -> bool
+    ensures { λ r. ⌜ r ≡ pairOk name value ⌝ }
+{
+    if name.count == 0 {
+        return false;
+    }
+    if value.count == 0 {
+        return false;
+    }
+    if !is_sound(name) {
+        return false;
+    }
+    is_sound(value)
+}
+
+// ---- names
+
+// Where the name from `from` to `to` goes on behind the root's prefix p; its end where it does not carry it.
+pub fn local(s: &[u8], p: &[u8], from: usize, to: usize) -> usize
+    requires { ⌜ (from ≤ to) × (to ≤ length (now s)) ⌝ }
+    ensures { λ r. ⌜ r ≡ localAt (now (s .entry)) (now (p .entry)) from to ⌝ }
+{
+    let n = p.len();
+    if to - from < n {
+        return to;
+    }
+    if octets::stands_at(s, from, p) {
+        return from + n;
+    }
+    to
+}
+
+pub fn alert_context(name: &[u8], kept: u32) -> Context
+    ensures { λ r. ⌜ r ≡ alertContext kept (now (name .entry)) ⌝ }
+{
+    if octets::equal(name, b"identifier") {
+        return Context::AlertLeaf(0);
+    }
+    if octets::equal(name, b"sender") {
+        return Context::AlertLeaf(1);
+    }
+    if octets::equal(name, b"sent") {
+        return Context::AlertLeaf(2);
+    }
+    if octets::equal(name, b"status") {
+        return Context::AlertLeaf(3);
+    }
+    if octets::equal(name, b"msgType") {
+        return Context::AlertLeaf(4);
+    }
+    if octets::equal(name, b"scope") {
+        return Context::AlertLeaf(5);
+    }
+    if octets::equal(name, b"references") {
+        return Context::AlertLeaf(6);
+    }
+    if octets::equal(name, b"info") {
+        if kept == 2 {
+            return Context::Later;
+        }
+        return Context::Info;
+    }
+    Context::Skipped
+}
+
+pub fn info_context(name: &[u8]) -> Context
+    ensures { λ r. ⌜ r ≡ infoContext (now (name .entry)) ⌝ }
+{
+    if octets::equal(name, b"language") {
+        return Context::InfoLeaf(0);
+    }
+    if octets::equal(name, b"eventCode") {
+        return Context::EventCode;
+    }
+    if octets::equal(name, b"expires") {
+        return Context::InfoLeaf(1);
+    }
+    if octets::equal(name, b"senderName") {
+        return Context::InfoLeaf(2);
+    }
+    if octets::equal(name, b"description") {
+        return Context::InfoLeaf(3);
+    }
+    if octets::equal(name, b"instruction") {
+        return Context::InfoLeaf(4);
+    }
+    if octets::equal(name, b"parameter") {
+        return Context::Parameter;
+    }
+    if octets::equal(name, b"resource") {
+        return Context::Resource;
+    }
+    if octets::equal(name, b"area") {
+        return Context::Area;
+    }
+    Context::Skipped
+}
+
+pub fn later_context(name: &[u8]) -> Context
+    ensures { λ r. ⌜ r ≡ laterContext (now (name .entry)) ⌝ }
+{
+    if octets::equal(name, b"language") {
+        return Context::InfoLeaf(0);
+    }
+    Context::Skipped
+}
+
+pub fn pair_context(name: &[u8]) -> Context
+    ensures { λ r. ⌜ r ≡ pairContext (now (name .entry)) ⌝ }
+{
+    if octets::equal(name, b"valueName") {
+        return Context::PairLeaf(0);
+    }
+    if octets::equal(name, b"value") {
+        return Context::PairLeaf(1);
+    }
+    Context::Skipped
+}
+
+pub fn resource_context(name: &[u8]) -> Context
+    ensures { λ r. ⌜ r ≡ resourceContext (now (name .entry)) ⌝ }
+{
+    if octets::equal(name, b"mimeType") {
+        return Context::PairLeaf(0);
+    }
+    if octets::equal(name, b"uri") {
+        return Context::PairLeaf(1);
+    }
+    Context::Skipped
+}
+
+pub fn area_context(name: &[u8]) -> Context
+    ensures { λ r. ⌜ r ≡ areaContext (now (name .entry)) ⌝ }
+{
+    if octets::equal(name, b"geocode") {
+        return Context::Geocode;
+    }
+    Context::Skipped
+}
+
+// The context inside the element in the context c whose name stands from `from` to `to`.
+pub fn context_of(s: &[u8], p: &[u8], from: usize, to: usize, c: Context, kept: u32) -> Context
+    requires { ⌜ (from ≤ to) × (to ≤ length (now s)) ⌝ }
+    ensures { λ r. ⌜ r ≡ contextOf (now (s .entry)) (now (p .entry)) from to c kept ⌝ }
+{
+    let at = local(s, p, from, to);
+    let name = &s[at..to];
+    match c {
+        Context::Root => Context::Alert,
+        Context::Alert => alert_context(name, kept),
+        Context::Info => info_context(name),
+        Context::Later => later_context(name),
+        Context::EventCode => pair_context(name),
+        Context::Parameter => pair_context(name),
+        Context::Geocode => pair_context(name),
+        Context::Resource => resource_context(name),
+        Context::Area => area_context(name),
+        Context::AlertLeaf(_) => Context::Skipped,
+        Context::InfoLeaf(_) => Context::Skipped,
+        Context::PairLeaf(_) => Context::Skipped,
+        Context::Skipped => Context::Skipped,
+    }
+}
+
+// ---- what an eventCode, a parameter, a geocode and a resource add, by their two leaves
+
+pub fn event_step(s: &[u8], e: Events, name: Leaf, value: Leaf) -> Events
+    ensures { λ r. ⌜ r ≡ eventStep (now (s .entry)) e name value ⌝ }
+{
+    let same = e.same;
+    if !is_pair(name, value) {
+        return Events {
+            same: same,
+            fault: true,
+        };
+    }
+    if values::equal(s, name.at, b"SAME") {
+        return Events {
+            same: find(same, value.at),
+            fault: e.fault,
+        };
+    }
+    e
+}
+
+pub fn parameter_step(s: &[u8], e: Parameters, name: Leaf, value: Leaf) -> Parameters
+    ensures { λ r. ⌜ r ≡ parameterStep (now (s .entry)) e name value ⌝ }
+{
+    let originator = e.originator;
+    let text = e.text;
+    let carry = e.carry;
+    let at = name.at;
+    if !is_pair(name, value) {
+        return Parameters {
+            originator: originator,
+            text: text,
+            carry: carry,
+            fault: true,
+        };
+    }
+    if values::equal(s, at, b"EAS-ORG") {
+        return Parameters {
+            originator: find(originator, value.at),
+            text: text,
+            carry: carry,
+            fault: e.fault,
+        };
+    }
+    if values::equal(s, at, b"EASText") {
+        return Parameters {
+            originator: originator,
+            text: find(text, value.at),
+            carry: carry,
+            fault: e.fault,
+        };
+    }
+    if values::equal(s, at, b"EAS-Must-Carry") {
+        return Parameters {
+            originator: originator,
+            text: text,
+            carry: find(carry, value.at),
+            fault: e.fault,
+        };
+    }
+    e
+}
+
+// One location more, of six digits, behind those that are placed.
+pub fn place_location(e: Locations, v: u32) -> Locations
+    ensures { λ r. ⌜ r ≡ placed e v ⌝ }
+{
+    let n = e.count;
+    let mut list = e.list;
+    if 31 <= n {
+        return e;
+    }
+    list[n] = v;
+    Locations {
+        count: n + 1,
+        list: list,
+        bad: e.bad,
+        fault: e.fault,
+    }
+}
+
+pub fn location_step(s: &[u8], e: Locations, name: Leaf, value: Leaf) -> Locations
+    ensures { λ r. ⌜ r ≡ locationStep (now (s .entry)) e name value ⌝ }
+{
+    let list = e.list;
+    if !is_pair(name, value) {
+        return Locations {
+            count: e.count,
+            list: list,
+            bad: e.bad,
+            fault: true,
+        };
+    }
+    if !values::equal(s, name.at, b"SAME") {
+        return e;
+    }
+    let v = values::six_digits(s, value.at);
+    match v {
+        Num::Value(n) => place_location(e, n),
+        Num::Bad => Locations {
+            count: e.count,
+            list: list,
+            bad: true,
+            fault: e.fault,
+        },
+    }
+}
+
+// The audio number of a mimeType, and 0 of any other.
+pub fn audio_of(s: &[u8], at: usize) -> u32
+    ensures { λ r. ⌜ r ≡ audioOf (now (s .entry)) at ⌝ }
+{
+    if values::equal(s, at, b"audio/x-ipaws-audio-mp3") {
+        return 1;
+    }
+    if values::equal(s, at, b"audio/x-ipaws-audio-wav") {
+        return 2;
+    }
+    if values::equal(s, at, b"audio/x-ipaws-streaming-audio-mp3") {
+        return 3;
+    }
+    0
+}
+
+pub fn audio_step(s: &[u8], e: Audio, mime: Leaf, uri: Leaf) -> Audio
+    ensures { λ r. ⌜ r ≡ audioStep (now (s .entry)) e mime uri ⌝ }
+{
+    if !is_sound(mime) {
+        return Audio {
+            number: e.number,
+            uri: e.uri,
+            fault: true,
+        };
+    }
+    if !is_sound(uri) {
+        return Audio {
+            number: e.number,
+            uri: e.uri,
+            fault: true,
+        };
+    }
+    if e.number != 0 {
+        return e;
+    }
+    let number = audio_of(s, mime.at);
+    if number == 0 {
+        return e;
+    }
+    let long = values::size(s, uri.at);
+    if long < 1 {
+        return e;
+    }
+    if 1024 < long {
+        return e;
+    }
+    Audio {
+        number: number,
+        uri: uri.at,
+        fault: e.fault,
+    }
+}
+
+// ---- infos
+
+// A language that is absent, empty or en-US in any letter case.
+pub fn is_english(s: &[u8], language: Leaf) -> bool
+    ensures { λ r. ⌜ r ≡ english (now (s .entry)) language ⌝ }
+{
+    let at = language.at;
+    if values::is_empty(s, at) {
+        return true;
+    }
+    values::equal_any_case(s, at, b"en-us")
+}
+
+// An info that has been read whole, before one is selected.
+pub fn info_step(s: &[u8], a: Alert, i: Info) -> Alert
+    ensures { λ r. ⌜ r ≡ infoStep (now (s .entry)) a i ⌝ }
+{
+    let leaf = a.leaf;
+    let kept = a.info;
+    let language = i.leaf[0];
+    let fault = either(a.fault, !is_sound(language));
+    if is_english(s, language) {
+        return Alert {
+            leaf: leaf,
+            kept: 2,
+            info: i,
+            fault: fault,
+        };
+    }
+    if a.kept == 0 {
+        return Alert {
+            leaf: leaf,
+            kept: 1,
+            info: i,
+            fault: fault,
+        };
+    }
+    Alert {
+        leaf: leaf,
+        kept: a.kept,
+        info: kept,
+        fault: fault,
+    }
+}
+
+pub fn either(a: bool, b: bool) -> bool
+    ensures { λ r. ⌜ r ≡ (a || b) ⌝ }
+{
+    if a {
+        return true;
+    }
+    b
+}
+
+// An info behind the one that is selected: of it only the language is read.
+pub fn later_step(a: Alert, i: Info) -> Alert
+    ensures { λ r. ⌜ r ≡ laterStep a i ⌝ }
+{
+    let leaf = a.leaf;
+    let kept = a.info;
+    let language = i.leaf[0];
+    Alert {
+        leaf: leaf,
+        kept: a.kept,
+        info: kept,
+        fault: either(a.fault, !is_sound(language)),
+    }
+}

@@ -1,0 +1,92 @@
+-- The loop goes by steps that `take` answers, which is `walk`; each goes forward and stays inside.
+use Prim.Native.Nat.{_-_}
+use mathlib.Core.Path.{_≡_, sym, _∙_}
+use native.Mathlib.Omega.{arith}
+use denote.Ref.{now}
+use lib.ListN.{length, take}
+use borrow.Author.Needs.{needs}
+use Rattle.pieces.specs.declared.Step.the-variants.{Go, Stop, Stuck}
+use Rattle.pieces.proofs.Walks.{Walking, walk-starts, step-on, walk-moves, walk-stops, walk-stuck}
+use Rattle.tags.specs.Tags.{takeAt}
+use Rattle.tags.proofs.Goes.{take-goes}
+use Rattle.tags.proofs.attributes.Statement.{statement}
+use Rattle.tags.proofs.attributes.Tie as tie
+
+abbrev Inv-loop : tie.InvT-loop
+Inv-loop s at i₀ i = Walking (takeAt s at) s at i
+
+abbrev μ-loop : tie.MeasureT-loop
+μ-loop s at i₀ i = length s - i
+
+loop-holds : tie.Need-loop-holds Inv-loop μ-loop
+loop-holds c =
+    let s = now (c .before .args .s) in
+    let f = takeAt s (c .before .args .at) in
+    let goes = take-goes s (c .before .args .at) in
+    walk-starts f s goes (c .before .args .at) (omega arith)
+
+take-requires : tie.Need-take-requires Inv-loop μ-loop
+take-requires c κs = search needs
+
+enum-known-b : tie.Need-enum-known-b Inv-loop μ-loop
+enum-known-b c = search needs
+
+loop-less : tie.Need-loop-less Inv-loop μ-loop
+loop-less c =
+    let s = now (c .before .before .before .before .before .before .args .s) in
+    let f = takeAt s (c .before .before .before .before .before .before .args .at) in
+    let goes = take-goes s (c .before .before .before .before .before .before .args .at) in
+    let k = c .before .b .given .0 .0 in
+    let e : f (c .before .before .before .before .loop .i) ≡ Go k = sym (c .before .before .before .take .ensures) ∙ c .before .b .given .1 in
+    let g = step-on f s goes (c .before .before .before .before .before .before .args .at) (c .before .before .before .before .loop .i) (c .before .before .before .before .loop .inv) k e in
+    let g1 = g .on in
+    let g2 = g .in-it in
+    omega arith
+
+loop-again : tie.Need-loop-again Inv-loop μ-loop
+loop-again c =
+    let s = now (c .before .before .before .before .before .before .args .s) in
+    let f = takeAt s (c .before .before .before .before .before .before .args .at) in
+    let goes = take-goes s (c .before .before .before .before .before .before .args .at) in
+    let k = c .before .b .given .0 .0 in
+    let e : f (c .before .before .before .before .loop .i) ≡ Go k = sym (c .before .before .before .take .ensures) ∙ c .before .b .given .1 in
+    walk-moves f s goes (c .before .before .before .before .before .before .args .at) (c .before .before .before .before .loop .i) (c .before .before .before .before .loop .inv) k e
+
+enum-known-b-2 : tie.Need-enum-known-b-2 Inv-loop μ-loop
+enum-known-b-2 c = search needs
+
+returns : tie.Need-returns Inv-loop μ-loop
+returns c =
+    let s = now (c .before .before .before .before .before .before .args .s) in
+    let f = takeAt s (c .before .before .before .before .before .before .args .at) in
+    let goes = take-goes s (c .before .before .before .before .before .before .args .at) in
+    let k = c .before .b2 .given .0 .0 in
+    let e : f (c .before .before .before .before .loop .i) ≡ Stop k = sym (c .before .before .before .take .ensures) ∙ c .before .b2 .given .1 in
+    walk-stops f s goes (c .before .before .before .before .before .before .args .at) (c .before .before .before .before .loop .i) (c .before .before .before .before .loop .inv) k e
+
+enum-told : tie.Need-enum-told Inv-loop μ-loop
+enum-told c = search needs
+
+returns-2 : tie.Need-returns-2 Inv-loop μ-loop
+returns-2 c =
+    let s = now (c .before .before .before .before .before .args .s) in
+    let f = takeAt s (c .before .before .before .before .before .args .at) in
+    let goes = take-goes s (c .before .before .before .before .before .args .at) in
+    let e : f (c .before .before .before .loop .i) ≡ Stuck = sym (c .before .before .take .ensures) ∙ c .enum-told .given .1 in
+    walk-stuck f s goes (c .before .before .before .before .before .args .at) (c .before .before .before .loop .i) (c .before .before .before .loop .inv) e
+
+pub attributes-spec : {M : Type 1} → statement M
+attributes-spec =
+    tie.close
+    (tie.spec
+    Inv-loop
+    μ-loop
+    loop-holds
+    take-requires
+    enum-known-b
+    loop-less
+    loop-again
+    enum-known-b-2
+    returns
+    enum-told
+    returns-2)

@@ -1,0 +1,281 @@
+// Start tags with their attributes, and end tags.
+use pieces::End;
+use pieces::Ref;
+use pieces::Step;
+ghost use mathlib.Core.Path.{_≡_};
+ghost use mathlib.Core.List.{_++_};
+ghost use Prim.Native.Nat.{_+_, _≤_, _<_};
+ghost use lib.ListN.{length};
+ghost use Rattle.octets.specs.Bytes.{same};
+ghost use Rattle.pieces.specs.Walk.{walkAt};
+ghost use Rattle.tags.specs.Attributes.{bitAt, valueAt, decodedAt, equalled, attrAt, seekAt, attrNamed};
+ghost use Rattle.tags.specs.Tags.{takeAt, tailAt, openAt, closeAt};
+
+// An attribute: where its name begins and ends, where its value begins, and where that ends. Or where the attributes end.
+pub enum Attr {
+    Of(usize, usize, usize, usize),
+    Last(usize),
+    None,
+}
+
+// A start tag: where its name ends, and what comes after it.
+pub enum Open {
+    Full(usize, usize),
+    Empty(usize, usize),
+    Shut,
+}
+
+// ---- values
+
+fn bit(s: &[u8], q: u8, i: usize) -> Step
+    requires { ⌜ 0 < q ⌝ }
+    ensures { λ r. ⌜ r ≡ bitAt (now (s .entry)) q i ⌝ }
+{
+    if octets::byte(s, i) == q {
+        return Step::Stop(i + 1);
+    }
+    let r = pieces::character(s, i);
+    match r {
+        Ref::Byte(_, j) => Step::Go(j),
+        Ref::Wrong => Step::Stuck,
+    }
+}
+
+// Where the value ends whose quote q stands before `at`.
+fn quoted(s: &[u8], q: u8, at: usize) -> End
+    requires { ⌜ at ≤ length (now s) ⌝ }
+    requires { ⌜ 0 < q ⌝ }
+    ensures { λ r. ⌜ r ≡ walkAt (bitAt (now (s .entry)) q) (now (s .entry)) at ⌝ }
+{
+    let mut i = at;
+    loop {
+        let b = bit(s, q, i);
+        match b {
+            Step::Go(j) => i = j,
+            Step::Stop(j) => return End::At(j),
+            Step::Stuck => return End::No,
+        }
+    }
+}
+
+fn value(s: &[u8], at: usize) -> End
+    ensures { λ r. ⌜ r ≡ valueAt (now (s .entry)) at ⌝ }
+{
+    let q = octets::byte(s, at);
+    if q == 34 {
+        return quoted(s, 34, at + 1);
+    }
+    if q == 39 {
+        return quoted(s, 39, at + 1);
+    }
+    End::No
+}
+
+// Whether the value whose quote stands at `at` is w, decoded and otherwise as it stands.
+pub fn value_is(s: &[u8], at: usize, w: &[u8]) -> bool
+    requires { ⌜ at ≤ length (now s) ⌝ }
+    ensures { λ r. ⌜ r ≡ same (decodedAt (now (s .entry)) at) (now (w .entry)) ⌝ }
+{
+    let q = octets::byte(s, at);
+    let mut i = at + 1;
+    let mut k: usize = 0;
+    loop {
+        if octets::byte(s, i) == q {
+            return k == w.len();
+        }
+        let r = pieces::character(s, i);
+        match r {
+            Ref::Byte(b, j) => {
+                if k == w.len() {
+                    return false;
+                }
+                if b != w[k] {
+                    return false;
+                }
+                i = j;
+                k += 1;
+            }
+            Ref::Wrong => return k == w.len(),
+        }
+    }
+}
+
+// ---- the next attribute
+
+fn equals(s: &[u8], j: usize, e: usize) -> Attr
+    ensures { λ r. ⌜ r ≡ equalled (now (s .entry)) j (End.At e) ⌝ }
+{
+    let q = pieces::spaces(s, e);
+    if octets::byte(s, q) != 61 {
+        return Attr::None;
+    }
+    let v = pieces::spaces(s, q + 1);
+    let w = value(s, v);
+    match w {
+        End::At(n) => Attr::Of(j, e, v, n),
+        End::No => Attr::None,
+    }
+}
+
+fn attribute(s: &[u8], at: usize) -> Attr
+    ensures { λ r. ⌜ r ≡ attrAt (now (s .entry)) at ⌝ }
+{
+    let j = pieces::spaces(s, at);
+    let b = octets::byte(s, j);
+    if b == 62 {
+        return Attr::Last(j);
+    }
+    if b == 47 {
+        return Attr::Last(j);
+    }
+    if j == at {
+        return Attr::None;
+    }
+    let n = pieces::name(s, j);
+    match n {
+        End::At(e) => equals(s, j, e),
+        End::No => Attr::None,
+    }
+}
+
+// ---- an attribute by its name
+
+// Whether t is `lead` and then `rest`.
+fn is_joined(t: &[u8], lead: &[u8], rest: &[u8]) -> bool
+    ensures { λ r. ⌜ r ≡ same (now (t .entry)) (now (lead .entry) ++ now (rest .entry)) ⌝ }
+{
+    let n = lead.len();
+    if t.len() < n {
+        return false;
+    }
+    if !octets::equal(&t[0..n], lead) {
+        return false;
+    }
+    octets::equal(&t[n..t.len()], rest)
+}
+
+fn seek(s: &[u8], lead: &[u8], rest: &[u8], stop: usize, i: usize) -> Step
+    ensures { λ r. ⌜ r ≡ seekAt (now (s .entry)) (now (lead .entry) ++ now (rest .entry)) stop i ⌝ }
+{
+    let x = attribute(s, i);
+    match x {
+        Attr::Of(a, b, v, e) => {
+            if stop <= a {
+                return Step::Stuck;
+            }
+            if is_joined(&s[a..b], lead, rest) {
+                Step::Stop(v)
+            } else {
+                Step::Go(e)
+            }
+        }
+        Attr::Last(_) => Step::Stuck,
+        Attr::None => Step::Stuck,
+    }
+}
+
+// Where the value stands of the attribute whose name is `lead` and then `rest`, of those that follow `at` and begin before `stop`.
+pub fn find(s: &[u8], lead: &[u8], rest: &[u8], at: usize, stop: usize) -> End
+    requires { ⌜ at ≤ length (now s) ⌝ }
+    ensures { λ r. ⌜ r ≡ attrNamed (now (s .entry)) (now (lead .entry) ++ now (rest .entry)) at stop ⌝ }
+{
+    let mut i = at;
+    loop {
+        let b = seek(s, lead, rest, stop, i);
+        match b {
+            Step::Go(k) => i = k,
+            Step::Stop(k) => return End::At(k),
+            Step::Stuck => return End::No,
+        }
+    }
+}
+
+// ---- tags
+
+fn take(s: &[u8], a: usize, i: usize) -> Step
+    requires { ⌜ a ≤ length (now s) ⌝ }
+    ensures { λ r. ⌜ r ≡ takeAt (now (s .entry)) a i ⌝ }
+{
+    let x = attribute(s, i);
+    match x {
+        Attr::Of(j, e, _, w) => {
+            let z = find(s, b"", &s[j..e], a, j);
+            match z {
+                End::At(_) => Step::Stuck,
+                End::No => Step::Go(w),
+            }
+        }
+        Attr::Last(j) => Step::Stop(j),
+        Attr::None => Step::Stuck,
+    }
+}
+
+// Where the attributes end that begin at `at`.
+fn attributes(s: &[u8], at: usize) -> End
+    requires { ⌜ at ≤ length (now s) ⌝ }
+    ensures { λ r. ⌜ r ≡ walkAt (takeAt (now (s .entry)) at) (now (s .entry)) at ⌝ }
+{
+    let mut i = at;
+    loop {
+        let b = take(s, at, i);
+        match b {
+            Step::Go(k) => i = k,
+            Step::Stop(k) => return End::At(k),
+            Step::Stuck => return End::No,
+        }
+    }
+}
+
+fn tail(s: &[u8], a: usize) -> Open
+    requires { ⌜ a ≤ length (now s) ⌝ }
+    ensures { λ r. ⌜ r ≡ tailAt (now (s .entry)) a ⌝ }
+{
+    let z = attributes(s, a);
+    match z {
+        End::At(j) => {
+            if octets::byte(s, j) == 62 {
+                return Open::Full(a, j + 1);
+            }
+            if octets::stands_at(s, j, b"/>") {
+                Open::Empty(a, j + 2)
+            } else {
+                Open::Shut
+            }
+        }
+        End::No => Open::Shut,
+    }
+}
+
+pub fn open_tag(s: &[u8], at: usize) -> Open
+    ensures { λ r. ⌜ r ≡ openAt (now (s .entry)) at ⌝ }
+{
+    if octets::byte(s, at) != 60 {
+        return Open::Shut;
+    }
+    let n = pieces::name(s, at + 1);
+    match n {
+        End::At(a) => tail(s, a),
+        End::No => Open::Shut,
+    }
+}
+
+// The end tag at j of the element at `at`, whose name ends at a.
+pub fn close_tag(s: &[u8], at: usize, a: usize, j: usize) -> End
+    requires { ⌜ at + 1 < a ⌝ }
+    requires { ⌜ a ≤ length (now s) ⌝ }
+    ensures { λ r. ⌜ r ≡ closeAt (now (s .entry)) at a j ⌝ }
+{
+    if !octets::stands_at(s, j, b"</") {
+        return End::No;
+    }
+    let start = at + 1;
+    if !octets::stands_at(s, j + 2, &s[start..a]) {
+        return End::No;
+    }
+    let e = pieces::spaces(s, j + 2 + (a - start));
+    if octets::byte(s, e) == 62 {
+        End::At(e + 1)
+    } else {
+        End::No
+    }
+}
