@@ -49,7 +49,7 @@ on-goes : (s : List ℕ) (i j : ℕ) (h : Held) → i < j → HeldGoes s j h →
 on-goes s i j (held t k) l g = let a = g .0 in (omega arith, g .1)
 on-goes s i j bad l g = tt
 
-items-goes : (el : ℕ → One) (s : List ℕ) → ((i : ℕ) → OneGoes s i (el i)) → (n i : ℕ) → HeldGoes s i (items el s n i)
+pub items-goes : (el : ℕ → One) (s : List ℕ) → ((i : ℕ) → OneGoes s i (el i)) → (n i : ℕ) → HeldGoes s i (items el s n i)
 unfolding items child turn
 items-goes el s f zero i = tt
 items-goes el s f (suc n) i = go (pieceAt s i) (piece-goes s i) (items-goes el s f n)

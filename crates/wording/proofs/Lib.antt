@@ -1,0 +1,4 @@
+pub mod Cuts
+pub mod Allotments
+pub mod Texts
+pub mod Examples

@@ -1,0 +1,82 @@
+-- The text, piece by piece.
+--     text-le, text-full    at most 1,800 characters, and as many where description and instruction don't fit
+--     text-eas, text-parts  the text by whether EASText is empty
+use Prim.Native.Nat.{ℕ, suc, _+_, _-_, _≤_, _<_}
+use mathlib.Core.Bool.{Bool, true, false}
+use mathlib.Core.List.{List, [], _∷_, _++_}
+use mathlib.Core.Path.{_≡_, refl, ap, _∙_}
+use native.Mathlib.Omega.{arith}
+use lib.ListN.{length, take, length-append, length-take}
+use lib.Seq.{sets, take-append-add}
+use Rattle.octets.proofs.Runs.{Run}
+use Rattle.octets.specs.Bytes.{same}
+use Rattle.octets.specs.Text.{bytes}
+use Rattle.sentence.proofs.Puts.{put-all}
+use Rattle.wording.specs.Text.{most, plain, empty, after, phrase, roomOf, partsOf, textOf}
+use Rattle.wording.proofs.Cuts.{pick-as, some-long, after-some}
+use Rattle.wording.proofs.Allotments.{parts-le, parts-full}
+
+-- what has been put at the very start
+pub put-start : {d ws x : List ℕ} {e : ℕ} → Run d 0 ws x e → (vs : List ℕ) → vs ≡ ws → (e ≡ length vs) × (x ≡ sets d 0 vs)
+put-start r vs s = let p = put-all r vs s in (omega (arith, p .0), p .1)
+
+-- ---- the sender's phrase
+
+pub phrase-none : (v : List ℕ) → empty v ≡ true → after (phrase v) ≡ []
+unfolding after phrase same
+phrase-none v h = rw h
+
+pub phrase-some : (v : List ℕ) → empty v ≡ false → after (phrase v) ≡ (bytes " Message from" ++ (32 ∷ take 200 v)) ++ bytes "."
+unfolding after phrase same bytes
+phrase-some v h = rw h
+
+pub phrase-le : (v : List ℕ) → length (after (phrase v)) ≤ 215
+unfolding bytes
+phrase-le v = go (empty v) refl
+  where
+    go : (b : Bool) → empty v ≡ b → length (after (phrase v)) ≤ 215
+    go true h = omega (arith, ap length (phrase-none v h))
+    go false h = omega (arith, ap length (phrase-some v h), length-append (take 200 v) (bytes "."), length-take 200 v)
+
+-- ---- the text
+
+-- the sentence and the sender's phrase
+abbrev pub front : List ℕ → List ℕ → List ℕ
+front sentence sender = sentence ++ after (phrase sender)
+
+front-le : (sentence sender : List ℕ) → length (front sentence sender) ≤ length sentence + 215
+front-le sentence sender = omega (arith, length-append sentence (after (phrase sender)), phrase-le sender)
+
+module _ (sentence eas sender d i : List ℕ) where
+  pub text-eas : empty eas ≡ false → length sentence ≤ 1799 → textOf sentence eas sender d i ≡ sentence ++ (32 ∷ take (1799 - length sentence) eas)
+  unfolding textOf
+  text-eas h k =
+      let m : most ≡ length sentence + suc (1799 - length sentence) = omega arith in
+      rw (h, after-some eas (some-long eas h)) (ap (λ (n : ℕ). take n (sentence ++ (32 ∷ eas))) m ∙ take-append-add sentence (32 ∷ eas) (suc (1799 - length sentence)))
+
+  pub text-parts : empty eas ≡ true → textOf sentence eas sender d i ≡ front sentence sender ++ partsOf (length (front sentence sender)) d i
+  unfolding textOf
+  text-parts h = rw h
+
+-- any text that is cut plainly
+pub plain-le : (t : List ℕ) → length (plain t) ≤ most
+plain-le t = omega (arith, length-take most t)
+
+-- a sentence of at most 389 characters leaves room, as one of up to 1,577 would
+pub text-le : (sentence eas sender d i : List ℕ) → length sentence ≤ 1577 → length (textOf sentence eas sender d i) ≤ most
+unfolding textOf
+text-le sentence eas sender d i h =
+    let before = front sentence sender in
+    let parts = partsOf (length before) d i in
+    let short = front-le sentence sender in
+    pick-as (λ (t : List ℕ). length t ≤ most) (empty eas) (before ++ parts) (plain (sentence ++ after eas))
+    (λ e. omega (arith, length-append before parts, parts-le (length before) d i (omega arith)))
+    (λ e. plain-le (sentence ++ after eas))
+
+-- and where description and instruction don't fit, the text has exactly 1,800 characters
+pub text-full : (sentence eas sender d i : List ℕ) → length sentence ≤ 1577 → empty eas ≡ true
+    → roomOf (length (front sentence sender)) d i < length d + length i → length (textOf sentence eas sender d i) ≡ most
+text-full sentence eas sender d i h e k =
+    let before = front sentence sender in
+    let short = front-le sentence sender in
+    omega (arith, ap length (text-parts sentence eas sender d i e), length-append before (partsOf (length before) d i), parts-full (length before) d i (omega arith) k)

@@ -1,0 +1,119 @@
+//! Makes case lines: `generate SEED COUNT [CALLS]`, with CALLS such as `read,write`.
+//! The same arguments make the same lines.
+
+#[path = "generate/boards.rs"]
+mod boards;
+#[path = "generate/chance.rs"]
+mod chance;
+#[path = "generate/draft.rs"]
+mod draft;
+#[path = "generate/headers.rs"]
+mod headers;
+#[path = "common/hex.rs"]
+mod hex;
+#[path = "generate/messages.rs"]
+mod messages;
+#[path = "generate/render.rs"]
+mod render;
+#[path = "generate/sound.rs"]
+mod sound;
+#[path = "generate/times.rs"]
+mod times;
+#[path = "generate/wrong.rs"]
+mod wrong;
+
+use std::io::{stdout, BufWriter, Write};
+use std::process::ExitCode;
+
+use boards::Chain;
+use chance::Chance;
+
+/// A change to a draft of a message.
+type Edit = fn(&mut draft::Draft, &mut Chance);
+
+const LONGEST_LINE: usize = 200_000;
+
+/// The calls, and how often each comes in its turn.
+const CALLS: [(&str, usize); 7] = [
+    ("convert", 8),
+    ("offer", 4),
+    ("handout", 2),
+    ("list", 2),
+    ("read", 2),
+    ("write", 2),
+    ("program", 2),
+];
+
+struct Generator {
+    chance: Chance,
+    chain: Chain,
+    /// How many cases of each call there were.
+    turns: [usize; CALLS.len()],
+}
+
+impl Generator {
+    fn new(seed: u64) -> Generator {
+        let mut chance = Chance::seeded(seed);
+        let chain = Chain::new(&mut chance);
+        Generator { chance, chain, turns: [0; CALLS.len()] }
+    }
+
+    fn case(&mut self, call: usize) -> String {
+        let turn = self.turns[call];
+        self.turns[call] += 1;
+        let (chain, chance) = (&mut self.chain, &mut self.chance);
+        match CALLS[call].0 {
+            "convert" => messages::convert_case(turn, chance),
+            "offer" => boards::offer_case(turn, chain, chance),
+            "handout" => boards::hand_out_case(turn, chain, chance),
+            "list" => boards::list_case(turn, chain, chance),
+            "read" => headers::read_case(turn, chance),
+            "write" => headers::write_case(turn, chance),
+            _ => messages::program_case(turn, chance),
+        }
+    }
+}
+
+/// The calls in the order of one round; None for a name that is no call.
+fn round(names: Option<&str>) -> Option<Vec<usize>> {
+    let mut wanted = [names.is_none(); CALLS.len()];
+    for name in names.into_iter().flat_map(|names| names.split(',')) {
+        wanted[CALLS.iter().position(|(call, _)| *call == name)?] = true;
+    }
+    let most = CALLS.iter().map(|(_, often)| *often).max()?;
+    let calls = (0..most).flat_map(|pass| (0..CALLS.len()).map(move |call| (pass, call)));
+    let chosen = calls.filter(|(pass, call)| wanted[*call] && *pass < CALLS[*call].1);
+    Some(chosen.map(|(_, call)| call).collect())
+}
+
+fn write_cases(seed: u64, count: usize, round: &[usize]) -> std::io::Result<()> {
+    let mut generator = Generator::new(seed);
+    let mut output = BufWriter::new(stdout().lock());
+    let mut written = 0;
+    while written < count {
+        let line = generator.case(round[written % round.len()]);
+        if line.len() <= LONGEST_LINE {
+            writeln!(output, "{line}")?;
+            written += 1;
+        }
+    }
+    output.flush()
+}
+
+fn main() -> ExitCode {
+    let arguments: Vec<String> = std::env::args().skip(1).collect();
+    let seed = arguments.first().and_then(|text| text.parse().ok());
+    let count = arguments.get(1).and_then(|text| text.parse().ok());
+    let round = round(arguments.get(2).map(String::as_str));
+    let (Some(seed), Some(count), Some(round)) = (seed, count, round) else {
+        eprintln!("Give a seed, a count, and perhaps calls joined by commas.");
+        return ExitCode::FAILURE;
+    };
+    match write_cases(seed, count, &round) {
+        Ok(()) => ExitCode::SUCCESS,
+        Err(error) => {
+            eprintln!("The lines could not be written: {error}.");
+            ExitCode::FAILURE
+        }
+    }
+}

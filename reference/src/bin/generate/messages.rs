@@ -1,0 +1,135 @@
+//! Cases of messages: convert and program.
+
+use crate::chance::Chance;
+use crate::draft::Draft;
+use crate::headers::{odd_station, station};
+use crate::hex::to_hex;
+use crate::render::render;
+use crate::sound::{cancel, SOUND};
+use crate::wrong::WRONG;
+
+fn sound_draft(most_edits: usize, chance: &mut Chance) -> Draft {
+    let mut draft = Draft::alert(chance);
+    for _ in 0..chance.below(most_edits + 1) {
+        chance.pick(&SOUND)(&mut draft, chance);
+    }
+    draft
+}
+
+/// A message that is most often taken.
+pub fn sound_message(chance: &mut Chance) -> Vec<u8> {
+    render(&sound_draft(2, chance), chance)
+}
+
+/// A message with one thing wrong, each kind of wrong in its turn.
+pub fn refused_message(turn: usize, chance: &mut Chance) -> Vec<u8> {
+    let mut draft = sound_draft(1, chance);
+    if chance.once_in(4) {
+        cancel(&mut draft, chance);
+    }
+    let (number, edit) = WRONG[turn % WRONG.len()];
+    edit(&mut draft, chance);
+    if number == 4 && chance.once_in(3) {
+        return Vec::new();
+    }
+    render(&draft, chance)
+}
+
+/// A message with two things wrong, of which the lower number decides; each pair of edits
+/// in its turn.
+fn twice_refused(turn: usize, chance: &mut Chance) -> Vec<u8> {
+    let mut draft = sound_draft(1, chance);
+    let first = turn % WRONG.len();
+    let second = (first + 1 + turn / WRONG.len()) % WRONG.len();
+    for (_, edit) in [WRONG[first], WRONG[second]] {
+        edit(&mut draft, chance);
+    }
+    render(&draft, chance)
+}
+
+/// A message with some of its bytes damaged.
+fn damaged(chance: &mut Chance) -> Vec<u8> {
+    let mut message = sound_message(chance);
+    for _ in 0..=chance.below(2) {
+        damage(&mut message, chance);
+    }
+    message
+}
+
+fn damage(message: &mut Vec<u8>, chance: &mut Chance) {
+    if message.is_empty() {
+        return;
+    }
+    let place = chance.below(message.len());
+    match chance.below(7) {
+        0 => message.truncate(place),
+        1 => {
+            message.remove(place);
+        }
+        2 => message.insert(place, chance.pick(b"<>&;/=\"'- \n!?]:a0\x00\x7f\xff")),
+        3 => message[place] = chance.pick(b"<>&;/=\"'- \n!?]:a0\x00\x7f\xff"),
+        4 => message[place] ^= 1 << chance.below(8),
+        5 => {
+            let end = (place + 1 + chance.below(40)).min(message.len());
+            let piece = message[place..end].to_vec();
+            let to = chance.below(message.len());
+            message.splice(to..to, piece);
+        }
+        _ => {
+            let end = (place + 1 + chance.below(40)).min(message.len());
+            message.drain(place..end);
+        }
+    }
+}
+
+/// The message of a turn; half of them are most often taken.
+fn message(turn: usize, chance: &mut Chance) -> Vec<u8> {
+    match turn % 20 {
+        0 => render(&sound_draft(0, chance), chance),
+        1..=8 => {
+            let mut draft = Draft::alert(chance);
+            SOUND[turn / 20 * 8 % SOUND.len() + turn % 20 - 1](&mut draft, chance);
+            if chance.once_in(2) {
+                SOUND[0](&mut draft, chance);
+            }
+            render(&draft, chance)
+        }
+        9 => render(&sound_draft(4, chance), chance),
+        10 | 17 => twice_refused(turn / 10, chance),
+        11..=16 => refused_message(turn / 20 * 6 + turn % 20 - 11, chance),
+        18 => damaged(chance),
+        _ => match chance.below(8) {
+            0 => Vec::new(),
+            1 => vec![chance.pick(b"<a \x00")],
+            2 => vec![b' '; chance.pick(&[32_768, 32_769])],
+            _ => sound_message(chance),
+        },
+    }
+}
+
+pub fn convert_case(turn: usize, chance: &mut Chance) -> String {
+    let message = message(turn, chance);
+    let mut station = station(chance);
+    let mut caps = [252, 1800, 1024];
+    if chance.once_in(4) {
+        let over = chance.pick(&[1, 2, 100]);
+        caps[chance.below(3)] += over;
+    }
+    if turn % 20 == 19 {
+        let place = chance.below(3);
+        match chance.below(3) {
+            0 => caps[place] -= 1,
+            1 => caps[place] = chance.pick(&[0, 1, 100, 65_280]),
+            _ => {}
+        }
+    }
+    if turn % 20 == 19 && chance.once_in(2) || chance.once_in(60) {
+        station = odd_station(chance);
+    }
+    let [header, text, uri] = caps;
+    format!("convert {} {} {header} {text} {uri}", to_hex(&message), to_hex(&station))
+}
+
+pub fn program_case(turn: usize, chance: &mut Chance) -> String {
+    format!("program {}", to_hex(&message(turn, chance)))
+}

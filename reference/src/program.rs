@@ -1,0 +1,51 @@
+//! What the program prints for a message on its standard input.
+
+use crate::octets::Output;
+use crate::{convert, Audio, Refusal, HEADER, TEXT, URI};
+
+/// Room for everything that the program can print.
+pub const LINES: usize = 64 + HEADER + TEXT + URI;
+
+const STATION: &[u8] = b"BENCH/01";
+
+/// Writes the lines for a message and returns their length.
+pub fn program(message: &[u8], lines: &mut [u8; LINES]) -> usize {
+    let (mut header, mut text, mut uri) = ([0; HEADER], [0; TEXT], [0; URI]);
+    let outcome = convert(message, STATION, &mut header, &mut text, &mut uri);
+    let mut lines = Output::on(lines);
+    match outcome {
+        Err(refusal) => put_number(refusal, &mut lines),
+        Ok(done) => {
+            put_number(Refusal::of(0), &mut lines);
+            put_line(b"header ", &header[..done.header], &mut lines);
+            put_line(audio_words(done.audio), &uri[..done.uri], &mut lines);
+            put_line(b"carry ", if done.carry { b"yes" } else { b"no" }, &mut lines);
+            put_line(b"text ", &text[..done.text], &mut lines);
+        }
+    }
+    lines.length()
+}
+
+fn put_number(answer: Refusal, lines: &mut Output) {
+    lines.put(b"number ");
+    lines.put_number(answer.number.into(), if answer.number < 10 { 1 } else { 2 });
+    lines.put(b" field ");
+    lines.put_number(answer.field.into(), 1);
+    lines.put(b"\n");
+}
+
+/// A line of a label and its value, `none` where that is empty.
+fn put_line(label: &[u8], value: &[u8], lines: &mut Output) {
+    lines.put(label);
+    lines.put(if value.is_empty() { b"none" } else { value });
+    lines.put(b"\n");
+}
+
+fn audio_words(audio: Audio) -> &'static [u8] {
+    match audio {
+        Audio::None => b"audio ",
+        Audio::Mp3 => b"audio mp3 ",
+        Audio::Wav => b"audio wav ",
+        Audio::Stream => b"audio stream ",
+    }
+}

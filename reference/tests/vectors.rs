@@ -1,0 +1,74 @@
+//! The stored vectors: each case line is answered as the line after it says.
+
+#[path = "../src/bin/common/answers.rs"]
+mod answers;
+
+fn check(vectors: &str) {
+    let lines: Vec<&str> = vectors.lines().collect();
+    assert!(!lines.is_empty() && lines.len() % 2 == 0, "Vectors are pairs of lines.");
+    for pair in lines.chunks_exact(2) {
+        let wanted = pair[1].strip_prefix("= ").expect("An answer stands after `= `.");
+        assert_eq!(answers::answer(pair[0].as_bytes()), wanted, "for {}", pair[0]);
+    }
+}
+
+#[test]
+fn readings_are_answered() {
+    check(include_str!("../../tests/vectors/readings.txt"));
+}
+
+#[test]
+fn the_sample_is_answered() {
+    check(include_str!("../../tests/vectors/sample.txt"));
+}
+
+#[test]
+fn lines_that_are_no_cases() {
+    let sound = "write CIV CEM 024031 45 95 18 0 42454e43482f3031 252";
+    assert!(answers::answer(sound.as_bytes()).starts_with("0 "));
+    let odd = [
+        "",
+        "read",
+        "read ",
+        "read 5",
+        "read 5A",
+        "read - -",
+        "reads -",
+        "list - 65281",
+        "list - x",
+        "list - 0000000001",
+        "convert - - 252 1800",
+        "convert - - 252 1800 -1",
+        "program",
+    ];
+    for line in odd {
+        assert_eq!(answers::answer(line.as_bytes()), "?", "for {line}");
+    }
+    for (part, other) in [(" 45 ", " 4x "), (" 252", " 65281"), ("3031 ", "303 "), (" 95 ", "  ")] {
+        let line = sound.replace(part, other);
+        assert_eq!(answers::answer(line.as_bytes()), "?", "for {line}");
+    }
+}
+
+#[test]
+fn parts_that_no_header_has() {
+    let sound = "write CIV CEM 024031,124031 45 95 18 0 42454e43482f3031 252";
+    let wrong = [
+        ("CIV", "-"),
+        ("CIV", "CIVX"),
+        ("CEM", "cEM"),
+        ("CEM", "-"),
+        ("024031,124031", "-"),
+        ("024031,124031", "024031-124031"),
+        ("024031,124031", "024031,"),
+        ("024031,124031", "02403,1124031"),
+        (" 45 ", " 999999999 "),
+        (" 95 ", " 367 "),
+        (" 18 ", " 24 "),
+        (" 0 ", " 60 "),
+    ];
+    for (part, other) in wrong {
+        let line = sound.replace(part, other);
+        assert_eq!(answers::answer(line.as_bytes()), "17 -", "for {line}");
+    }
+}
