@@ -1,6 +1,4 @@
 // Answers case lines: one line on standard output for each line on standard input.
-mod headers;
-
 use libc::STDIN_FILENO;
 use libc::STDOUT_FILENO;
 
@@ -19,10 +17,13 @@ fn answer(line: &[u8], out: &mut [u8]) -> usize {
     let call = lines::front(line, n);
     let asked = lines::last_field(line, lines::next_field(line, 0));
     if octets::equal(call, b"read") {
-        return headers::read(asked, out);
+        return header_lines::read(asked, out);
     }
     if octets::equal(call, b"write") {
-        return headers::write(asked, out);
+        return header_lines::write(asked, out);
+    }
+    if octets::equal(call, b"message") {
+        return message_lines::found(asked, out);
     }
     lines::put(out, 0, b"?")
 }

@@ -226,3 +226,32 @@ pub fn put_hex(out: &mut [u8], at: usize, t: &[u8]) -> usize {
     }
     at + 2 * i
 }
+
+// A space and a decimal number.
+pub fn put_spaced(out: &mut [u8], at: usize, v: u32) -> usize {
+    let end = put(out, at, b" ");
+    put_decimal(out, end, v)
+}
+
+// A location behind k others, after a comma but for the first.
+fn put_location(out: &mut [u8], at: usize, k: usize, v: u32) -> usize {
+    if k == 0 {
+        return put_digits(out, at, 6, v);
+    }
+    let end = put(out, at, b",");
+    put_digits(out, end, 6, v)
+}
+
+// The first `count` locations, as six-digit codes joined by commas.
+pub fn put_locations(out: &mut [u8], at: usize, list: [u32; 31], count: usize) -> usize {
+    let mut end = at;
+    let mut k: usize = 0;
+    while k < 31 {
+        if count <= k {
+            return end;
+        }
+        end = put_location(out, end, k, list[k]);
+        k += 1;
+    }
+    end
+}

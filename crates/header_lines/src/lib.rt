@@ -1,4 +1,4 @@
-// The lines `read` and `write`.
+// The case lines `read` and `write`.
 use octets::Num;
 use parts::Body;
 use parts::Originator;
@@ -21,40 +21,11 @@ fn originator_word(o: Originator) -> [u8; 3] {
     }
 }
 
-// A location behind k others, after a comma but for the first.
-fn put_location(out: &mut [u8], at: usize, k: usize, v: u32) -> usize {
-    if k == 0 {
-        return lines::put_digits(out, at, 6, v);
-    }
-    let end = lines::put(out, at, b",");
-    lines::put_digits(out, end, 6, v)
-}
-
-// Six-digit codes joined by commas.
-fn put_locations(out: &mut [u8], at: usize, list: [u32; 31], count: usize) -> usize {
-    let mut end = at;
-    let mut k: usize = 0;
-    while k < 31 {
-        if count <= k {
-            return end;
-        }
-        end = put_location(out, end, k, list[k]);
-        k += 1;
-    }
-    end
-}
-
-// A space and a decimal number.
-fn put_number(out: &mut [u8], at: usize, v: u32) -> usize {
-    let end = lines::put(out, at, b" ");
-    lines::put_decimal(out, end, v)
-}
-
 fn put_times(out: &mut [u8], at: usize, b: Body) -> usize {
-    let period = put_number(out, at, b.period);
-    let day = put_number(out, period, b.day);
-    let hour = put_number(out, day, b.hour);
-    put_number(out, hour, b.minute)
+    let period = lines::put_spaced(out, at, b.period);
+    let day = lines::put_spaced(out, period, b.day);
+    let hour = lines::put_spaced(out, day, b.hour);
+    lines::put_spaced(out, hour, b.minute)
 }
 
 fn put_names(out: &mut [u8], at: usize, b: Body) -> usize {
@@ -78,7 +49,7 @@ fn put_parts(out: &mut [u8], at: usize, p: Parts) -> usize {
     let list = b.locations;
     let station = p.station;
     let names = put_names(out, at, b);
-    let locations = put_locations(out, names, list, b.count);
+    let locations = lines::put_locations(out, names, list, b.count);
     let times = put_times(out, locations, b);
     put_station(out, times, station)
 }

@@ -3,8 +3,8 @@ use Prim.Native.Nat.{_-_, _≤_}
 use lib.ListN.{length}
 use mathlib.Core.Path.{_≡_}
 use borrow.Author.Needs.{needs}
-use Rattle.messages.proofs.found.put_codes.Statement.{statement}
-use Rattle.messages.proofs.found.put_codes.Tie as tie
+use Rattle.lines.proofs.put_locations.Statement.{statement}
+use Rattle.lines.proofs.put_locations.Tie as tie
 
 abbrev Inv-loop : tie.InvT-loop
 Inv-loop out₀ at count list end₀ k₀ out end k = (k ≤ 31) × (length out ≡ length out₀) × (length list ≡ 31)
@@ -45,8 +45,8 @@ same-length-2 c = search needs
 returns-2 : tie.Need-returns-2 Inv-loop μ-loop
 returns-2 c = search needs
 
-pub put-codes-spec : {M : Type 1} → statement M
-put-codes-spec =
+pub put-locations-spec : {M : Type 1} → statement M
+put-locations-spec =
     tie.close
     (tie.spec
     Inv-loop

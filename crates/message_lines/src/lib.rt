@@ -1,4 +1,4 @@
-// What is found in a message, put together in a lent slice.
+// The case line `message`: what is found in a message.
 use reads::Alert;
 use reads::Audio;
 use reads::Events;
@@ -7,11 +7,8 @@ use reads::Leaf;
 use reads::Locations;
 use reads::Parameters;
 
-// A space and a decimal number.
-fn put_number(out: &mut [u8], at: usize, v: u32) -> usize {
-    let end = lines::put(out, at, b" ");
-    lines::put_decimal(out, end, v)
-}
+// The longest message that is read, which is longer than a legal one.
+const LONGEST: usize = 32770;
 
 // A colon and the first 40 characters of the value at `place`, in hexadecimal.
 fn put_value(s: &[u8], place: usize, out: &mut [u8], at: usize) -> usize {
@@ -22,40 +19,17 @@ fn put_value(s: &[u8], place: usize, out: &mut [u8], at: usize) -> usize {
 }
 
 fn put_leaf(s: &[u8], l: Leaf, out: &mut [u8], at: usize) -> usize {
-    let end = put_number(out, at, l.count);
+    let end = lines::put_spaced(out, at, l.count);
     put_value(s, l.at, out, end)
 }
 
 // ---- locations
 
-// A location behind k others, after a comma but for the first.
-fn put_location(out: &mut [u8], at: usize, k: usize, v: u32) -> usize {
-    if k == 0 {
-        return lines::put_digits(out, at, 6, v);
-    }
-    let end = lines::put(out, at, b",");
-    lines::put_digits(out, end, 6, v)
-}
-
-// Six-digit codes joined by commas.
-fn put_codes(out: &mut [u8], at: usize, list: [u32; 31], count: usize) -> usize {
-    let mut end = at;
-    let mut k: usize = 0;
-    while k < 31 {
-        if count <= k {
-            return end;
-        }
-        end = put_location(out, end, k, list[k]);
-        k += 1;
-    }
-    end
-}
-
 fn put_codes_or_none(out: &mut [u8], at: usize, list: [u32; 31], count: usize) -> usize {
     if count == 0 {
         return lines::put(out, at, b"-");
     }
-    put_codes(out, at, list, count)
+    lines::put_locations(out, at, list, count)
 }
 
 // How many are placed, as the decimal number of a count that is 31 at most.
@@ -68,7 +42,7 @@ fn small(n: usize) -> u32 {
 
 fn put_locations(e: Locations, out: &mut [u8], at: usize) -> usize {
     let list = e.list;
-    let first = put_number(out, at, small(e.count));
+    let first = lines::put_spaced(out, at, small(e.count));
     let second = lines::put(out, first, b":");
     let end = put_codes_or_none(out, second, list, e.count);
     if e.bad {
@@ -80,7 +54,7 @@ fn put_locations(e: Locations, out: &mut [u8], at: usize) -> usize {
 // ---- the alert
 
 fn put_audio(s: &[u8], e: Audio, out: &mut [u8], at: usize) -> usize {
-    let end = put_number(out, at, e.number);
+    let end = lines::put_spaced(out, at, e.number);
     put_value(s, e.uri, out, end)
 }
 
@@ -134,7 +108,7 @@ fn put_alert_leaves(s: &[u8], a: Alert, out: &mut [u8], at: usize) -> usize {
 
 fn put_alert(s: &[u8], a: Alert, out: &mut [u8], at: usize) -> usize {
     let i = a.info;
-    let kept = put_number(out, at, a.kept);
+    let kept = lines::put_spaced(out, at, a.kept);
     let leaves = put_alert_leaves(s, a, out, kept);
     put_info(s, i, out, leaves)
 }
@@ -150,15 +124,24 @@ fn is_unread(number: u32) -> bool {
 }
 
 // Number and field; and, of a message that is read, its kind, the instant of sent, and what is in its alert.
-pub fn put_found(s: &[u8], out: &mut [u8]) -> usize {
+fn put_found(s: &[u8], out: &mut [u8]) -> usize {
     let m = message::read(s);
     let number = lines::put_decimal(out, 0, m.number);
-    let field = put_number(out, number, m.field);
+    let field = lines::put_spaced(out, number, m.field);
     if is_unread(m.number) {
         return field;
     }
     let a = m.alert;
-    let kind = put_number(out, field, m.kind);
-    let sent = put_number(out, kind, m.sent);
+    let kind = lines::put_spaced(out, field, m.kind);
+    let sent = lines::put_spaced(out, kind, m.sent);
     put_alert(s, a, out, sent)
+}
+
+pub fn found(asked: &[u8], out: &mut [u8]) -> usize {
+    let mut bytes = [0u8; LONGEST];
+    let got = lines::unhex(asked, &mut bytes);
+    if !got.ok {
+        return lines::put(out, 0, b"?");
+    }
+    put_found(lines::front(&bytes, got.len), out)
 }

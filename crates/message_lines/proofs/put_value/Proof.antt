@@ -6,8 +6,8 @@ use denote.Ref.{now}
 use lib.ListN.{length, take, length-take}
 use Rattle.values.specs.Value.{valueAt}
 use borrow.Author.Needs.{needs}
-use Rattle.messages.proofs.found.put_value.Statement.{statement}
-use Rattle.messages.proofs.found.put_value.Tie as tie
+use Rattle.message_lines.proofs.put_value.Statement.{statement}
+use Rattle.message_lines.proofs.put_value.Tie as tie
 
 room : (v : List ℕ) → 0 + length (take 40 v) ≤ 40
 room v = simp length-take (omega arith)

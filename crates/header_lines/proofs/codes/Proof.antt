@@ -3,8 +3,8 @@ use Prim.Native.Nat.{_-_, _≤_}
 use lib.ListN.{length}
 use mathlib.Core.Path.{_≡_}
 use borrow.Author.Needs.{needs}
-use Rattle.cases.proofs.headers.codes.Statement.{statement}
-use Rattle.cases.proofs.headers.codes.Tie as tie
+use Rattle.header_lines.proofs.codes.Statement.{statement}
+use Rattle.header_lines.proofs.codes.Tie as tie
 
 abbrev Inv-loop : tie.InvT-loop
 Inv-loop t out₀ n i₀ out i = (i ≤ length t) × (length out ≡ length out₀)
