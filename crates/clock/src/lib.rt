@@ -10,7 +10,7 @@ ghost use Rattle.octets.specs.Bytes.{part};
 ghost use Rattle.clock.specs.Calendar.{leap, yearDays, monthDays, daysBefore, daysTo};
 ghost use Rattle.clock.specs.Time.{reads, dateTests, dateOf, minutesTests, minutesOf, secondTests, secondOf, isSign, zoneTests, signed, since2000, utc, span, within, timeOf};
 ghost use Rattle.clock.specs.Period.{periodOf};
-ghost use Rattle.clock.specs.Stamp.{yearDayOf, stampOf, instantOf};
+ghost use Rattle.clock.specs.Stamp.{yearDayOf, stampOf};
 ghost use Rattle.clock.specs.Written.{tttt, jjjhhmm};
 
 // What a time reads as: an instant, in seconds since 2000 began in UTC.
@@ -270,7 +270,7 @@ pub fn period(seconds: u32) -> u32
     (seconds + 1799) / 1800 * 30
 }
 
-// ---- from an instant, and back
+// ---- from an instant
 
 // The day that is d days after 2000 began: every fourth year has 366 days, the first too.
 fn year_day(d: u32) -> YearDay
@@ -302,18 +302,6 @@ pub fn stamp_of(t: u32) -> Stamp
         hour: t % 86400 / 3600,
         minute: t % 3600 / 60,
     }
-}
-
-// The instant of a second of a day of a year.
-pub fn instant_of(year: u32, day: u32, second: u32) -> u32
-    requires { ⌜ 2000 ≤ year ⌝ }
-    requires { ⌜ year ≤ 2099 ⌝ }
-    requires { ⌜ 1 ≤ day ⌝ }
-    requires { ⌜ day ≤ 366 ⌝ }
-    requires { ⌜ second < 86400 ⌝ }
-    ensures { λ r. ⌜ r ≡ instantOf year day second ⌝ }
-{
-    (days_to(year) + (day - 1) - 730485) * 86400 + second
 }
 
 // ---- into a header
