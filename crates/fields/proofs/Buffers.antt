@@ -1,12 +1,14 @@
 -- What was put at the front of a buffer d of m bytes, which is then x, is taken from there.
 --     taken-back      the first n bytes are the run w that was put, if it fits
 --     copied-back     the same of a run that is cut to fit
-use Prim.Native.Nat.{ℕ, _+_, _-_, _≤_}
+--     cut             where a run of more than n elements is refused, the first n + 1 are judged as the whole
+use Prim.Native.Nat.{ℕ, suc, _+_, _-_, _≤_, _<_}
 use mathlib.Core.Path.{_≡_, sym, ap, _∙_}
 use mathlib.Core.List.{List}
 use native.Mathlib.Omega.{arith}
+use native.Mathlib.Decide.{decLt}
 use lib.ListN.{length, take, drop, length-take}
-use lib.Seq.{sets, length-sets, sets-eq, take-at}
+use lib.Seq.{sets, length-sets, sets-eq, take-at, take-all}
 
 module _ (d w x : List ℕ) (m n : ℕ) (l : length d ≡ m) (p : x ≡ sets d 0 w) (e : n ≡ length w) where
   pub put-long : length x ≡ m
@@ -27,3 +29,10 @@ module _ (d v x : List ℕ) (m n : ℕ) (l : length d ≡ m) (p : x ≡ sets d 0
 
   pub copied-back : take (n - 0) (drop 0 x) ≡ take m v
   copied-back = taken-back d (take m v) x m n l p e short
+
+pub cut : {A : Type 0} (f : List ℕ → A) (bad : A) (n : ℕ) → ((t : List ℕ) → n < length t → f t ≡ bad) → (v : List ℕ) → f (take (suc n) v) ≡ f v
+cut f bad n long v = go (decLt n (length v))
+  where
+    go : Dec (n < length v) → f (take (suc n) v) ≡ f v
+    go (yes h) = long (take (suc n) v) (simp length-take (omega arith)) ∙ sym (long v h)
+    go (no h) = ap f (take-all (suc n) v (omega arith))

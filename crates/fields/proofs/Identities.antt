@@ -2,16 +2,14 @@
 --     identity-no, identity-is          a test that fails, and all of them holding
 --     identity-short, time-short        how long they are
 --     identity-cut, time-cut            the first 65 and 26 bytes are judged as the whole
-use Prim.Native.Nat.{ℕ, suc, _+_, _≤_, _<_}
+use Prim.Native.Nat.{ℕ, _+_, _≤_, _<_}
 use mathlib.Core.Path.{_≡_, refl, sym, ap, _∙_}
 use mathlib.Core.Bool.{Bool, true, false, true≢false}
 use mathlib.Core.List.{List, [], _∷_}
 use native.Mathlib.Omega.{arith}
-use native.Mathlib.Decide.{decLt}
 use borrow.Author.Tests.{ne-eqb, eqb-true}
 use lib.Dec.{eqb}
-use lib.ListN.{length, take, drop, getD, length-take, drop-of-length-le}
-use lib.Seq.{take-all}
+use lib.ListN.{length, take, drop, getD, drop-of-length-le}
 use Rattle.octets.specs.Bytes.{every, between}
 use Rattle.octets.proofs.Parts.{tail-step}
 use Rattle.octets.proofs.Tests.{each-of, every-of, one-fails, every-step, every-stop, every-none, between-high, between-is, above-between}
@@ -20,6 +18,7 @@ use Rattle.clock.specs.declared.Time.{Time}
 use Rattle.clock.proofs.Times.{time-no}
 use Rattle.fields.specs.Fields.{isIdentity, identityOk}
 use Rattle.fields.specs.References.{isTime}
+use Rattle.fields.proofs.Buffers.{cut}
 
 -- ---- identities
 
@@ -67,14 +66,7 @@ time-short t h = go (eqb (length t) 25) refl
     go true e = eqb-true (length t) 25 e
     go false e = let d : true ≡ false = sym h ∙ ap isTime (time-no 0 t e) in absurd (true≢false d)
 
--- ---- a run that is too long is refused, so its first n + 1 elements are judged as the whole
-
-cut : {A : Type 0} (f : List ℕ → A) (bad : A) (n : ℕ) → ((t : List ℕ) → n < length t → f t ≡ bad) → (v : List ℕ) → f (take (suc n) v) ≡ f v
-cut f bad n long v = go (decLt n (length v))
-  where
-    go : Dec (n < length v) → f (take (suc n) v) ≡ f v
-    go (yes h) = long (take (suc n) v) (simp length-take (omega arith)) ∙ sym (long v h)
-    go (no h) = ap f (take-all (suc n) v (omega arith))
+-- ---- a run that is too long is refused
 
 pub identity-cut : (v : List ℕ) → identityOk (take 65 v) ≡ identityOk v
 identity-cut v = cut identityOk false 64 identity-long v

@@ -305,7 +305,7 @@ pub fn put_body(out: &mut [u8], at: usize, b: Body)
     put_times(out, at + 12 + 7 * n, b.period, b.day, b.hour, b.minute);
 }
 
-fn put_header(out: &mut [u8], p: Parts)
+pub fn put_header(out: &mut [u8], p: Parts)
     requires { ⌜ p .body .count ≤ 31 ⌝ }
     requires { ⌜ 35 + 7 * p .body .count ≤ length (now out) ⌝ }
     ensures { λ _. ⌜ now (out .exit) ≡ sets (now (out .entry)) 0 (headerBytes p) ⌝ }

@@ -2,3 +2,5 @@ pub mod Trees
 pub mod Reals
 pub mod Places
 pub mod Unread
+pub mod Fits
+pub mod Codes

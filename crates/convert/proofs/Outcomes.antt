@@ -1,0 +1,86 @@
+-- The outcome of a conversion, by what was found: a message s, a station, and outputs of h, t and u bytes.
+--     untouched      where nothing is given, each output is as it was
+use Prim.Native.Nat.{ℕ, _≤_}
+use mathlib.Core.Path.{_≡_, refl, sym, ap, _∙_}
+use mathlib.Core.Bool.{Bool, true, false}
+use mathlib.Core.List.{List, []}
+use native.Mathlib.Omega.{arith}
+use borrow.Author.Tests.{eq-eqb, ne-eqb, eqb-false}
+use lib.ListN.{length}
+use lib.Seq.{sets}
+use lib.Dec.{eqb}
+use Rattle.octets.specs.Bytes.{pick, between}
+use Rattle.octets.proofs.Tests.{between-high}
+use Rattle.values.specs.Value.{valueAt}
+use Rattle.parts.specs.Parts.{stationOk}
+use Rattle.reads.specs.declared.Audio.{Audio}
+use Rattle.message.specs.Message.{messageOf}
+use Rattle.leaves.proofs.Fits.{audio-fits}
+use Rattle.judgement.specs.Rules.{infoIn}
+use Rattle.judgement.specs.Judged.{judgedOf}
+use Rattle.judgement.specs.declared.Judged.{Judged}
+use Rattle.judgement.proofs.Bodies.{body-ok, message-kept}
+use Rattle.convert.specs.Convert.{Given, nothing, uriIn, alertGiven, Outcome, refusedWith, Ready, roomy, outcomeOf, convertOf, answerOf}
+use Rattle.convert.specs.declared.Converted.{Converted}
+
+-- ---- nothing given
+
+pub record Alone (o : Outcome) (r : Converted) (header text uri : List ℕ) : Type 0 where
+  pub told : r ≡ answerOf o
+  pub header-stays : header ≡ sets header 0 (o .given .header)
+  pub text-stays : text ≡ sets text 0 (o .given .text)
+  pub uri-stays : uri ≡ sets uri 0 (o .given .uri)
+
+pub untouched : (o : Outcome) (r : Converted) (header text uri : List ℕ) (n f : ℕ) → o ≡ record { number = n; field = f; given = nothing } →
+    r ≡ answerOf (record { number = n; field = f; given = nothing }) → Alone o r header text uri
+untouched o r header text uri n f e h = record {
+  told = h ∙ ap answerOf (sym e);
+  header-stays = rw e;
+  text-stays = rw e;
+  uri-stays = rw e;
+}
+
+-- ---- by the numbers
+
+uri-fits : (s : List ℕ) (a : Audio) → (eqb (a .number) 0 ≡ false → between 1 1024 (length (valueAt s (a .uri))) ≡ true) → length (uriIn s a) ≤ 1024
+unfolding uriIn
+uri-fits s a h = by (eqb (a .number) 0) refl
+  where
+    by : (b : Bool) → eqb (a .number) 0 ≡ b → length (pick (eqb (a .number) 0) [] (valueAt s (a .uri))) ≤ 1024
+    by true e = rw e (omega arith)
+    by false e = rw e (between-high 1 1024 (length (valueAt s (a .uri))) (h e))
+
+module _ (s station : List ℕ) (h t u : ℕ) where
+  pub short : roomy h t u ≡ false → convertOf s station h t u ≡ refusedWith 2
+  unfolding convertOf
+  short e = rw e
+
+  module _ (room : roomy h t u ≡ true) where
+    pub unnamed : stationOk station ≡ false → convertOf s station h t u ≡ refusedWith 3
+    unfolding convertOf
+    unnamed e = rw (room, e)
+
+    module _ (named : stationOk station ≡ true) (j : Judged) (judged : j ≡ judgedOf s) where
+      outcome : convertOf s station h t u ≡ outcomeOf s station j
+      unfolding convertOf
+      outcome = rw (room, named, judged)
+
+      pub refused : (j .number ≡ 0 → ⊥) → convertOf s station h t u ≡ record { number = j .number; field = j .field; given = nothing }
+      unfolding outcomeOf
+      refused e = outcome ∙ rw (ne-eqb (j .number) 0 e)
+
+      pub quiet : j .number ≡ 0 → j .quiet ≡ true → convertOf s station h t u ≡ record { number = 0; field = j .field; given = nothing }
+      unfolding outcomeOf
+      quiet e q = outcome ∙ rw (e, q)
+
+      pub alert : j .number ≡ 0 → j .quiet ≡ false → convertOf s station h t u ≡ record { number = 0; field = j .field; given = alertGiven s station j }
+      unfolding outcomeOf
+      alert e q = outcome ∙ rw (e, q)
+
+      pub ready : j .number ≡ 0 → j .quiet ≡ false → Ready s station j h t u
+      ready e q = rw judged (record {
+        room = room;
+        named = named;
+        body = body-ok s (rw judged at e) (rw judged at q);
+        fits = rw (message-kept s (messageOf s)) (uri-fits s (infoIn (messageOf s) .audio) (audio-fits s));
+      })

@@ -1,0 +1,59 @@
+-- Header, text and uri are put, each into its own output.
+use mathlib.Core.Path.{_∙_}
+use native.Mathlib.Omega.{arith}
+use borrow.Author.Tests.{leb-true}
+use Rattle.octets.specs.Text.{bytes}
+use Rattle.octets.proofs.Tests.{each-of}
+use Rattle.convert.specs.Convert.{Ready, roomy, alertGiven, answerOf}
+use borrow.Author.Needs.{needs}
+use Rattle.convert.proofs.write.Statement.{statement}
+use Rattle.convert.proofs.write.Tie as tie
+
+slice-aggregate-equal : tie.Need-slice-aggregate-equal
+slice-aggregate-equal c = search needs
+
+equal-requires : tie.Need-equal-requires
+equal-requires c κs = search needs
+
+put-header-requires : tie.Need-put-header-requires
+unfolding roomy
+put-header-requires c κs = let p = c .before .before .before .before .before .before .before .before .before .before .before .before .before .before .before .pre in (p .named, (p .body, leb-true _ _ (each-of _ (p .room) .0)))
+
+put-text-requires : tie.Need-put-text-requires
+unfolding roomy
+put-text-requires c κs = let p = c .before .before .before .before .before .before .before .before .before .before .before .before .before .before .before .before .before .before .before .pre in (leb-true _ _ (each-of _ (p .room) .1 .0), p .body)
+
+put-uri-requires : tie.Need-put-uri-requires
+unfolding roomy
+put-uri-requires c κs = let p = c .before .before .before .before .before .before .before .before .before .before .before .before .before .before .before .before .before .before .before .before .before .before .before .pre in (p .fits, leb-true _ _ (each-of _ (p .room) .1 .1 .0))
+
+same-length : tie.Need-same-length
+same-length c = search needs
+
+same-length-2 : tie.Need-same-length-2
+same-length-2 c = search needs
+
+same-length-3 : tie.Need-same-length-3
+same-length-3 c = search needs
+
+returns : tie.Need-returns
+unfolding alertGiven answerOf bytes
+returns c =
+    let u = c .before .before .put-uri .ensures in
+    let t = c .before .before .before .before .before .before .put-text .ensures in
+    let h = c .before .before .before .before .before .before .before .before .before .before .put-header .ensures in
+    (rw (u .0, t .0, h .0, c .before .before .before .before .before .before .before .before .before .before .before .before .equal .ensures), (h .1, (t .1, u .1)))
+
+pub write-spec : {M : Type 1} → statement M
+write-spec =
+    tie.close
+    (tie.spec
+    slice-aggregate-equal
+    equal-requires
+    put-header-requires
+    put-text-requires
+    put-uri-requires
+    same-length
+    same-length-2
+    same-length-3
+    returns)

@@ -1,0 +1,232 @@
+// A message judged up to number 14: quiet Cancels, and the parts of the header that the message gives.
+use clock::Time;
+use message::Message;
+use parts::Body;
+use parts::Origin;
+use parts::Originator;
+use reads::Leaf;
+use reads::Locations;
+ghost use mathlib.Core.Path.{_≡_};
+ghost use Prim.Native.Nat.{_<_, _-_};
+ghost use Rattle.octets.specs.Bytes.{every, holds};
+ghost use Rattle.clock.specs.Time.{span};
+ghost use Rattle.message.specs.Judged.{instantIn};
+ghost use Rattle.judgement.specs.Rules.{noEvent, eventOf, originOf, located, secondsTo, unplaced, complete, quietOf};
+ghost use Rattle.judgement.specs.Judged.{without, bodyWith, alerted, judgedOf};
+
+// The event of a header, or that there is none.
+pub struct Event {
+    pub ok: bool,
+    pub code: [u8; 3],
+}
+
+// A message with its number and field of 4 to 14; whether it is a quiet Cancel; and, after 0 where it is not, the header through the dash after
+// JJJHHMM.
+pub struct Judged {
+    pub number: u32,
+    pub field: u32,
+    pub quiet: bool,
+    pub body: Body,
+    pub message: Message,
+}
+
+// ---- what an info says for a header
+
+fn no_event() -> Event
+    ensures { λ r. ⌜ r ≡ noEvent ⌝ }
+{
+    Event {
+        ok: false,
+        code: [0u8; 3],
+    }
+}
+
+// The event of the SAME eventCode.
+fn event_of(s: &[u8], l: Leaf) -> Event
+    ensures { λ r. ⌜ r ≡ eventOf (now (s .entry)) l ⌝ }
+{
+    if l.count != 1 {
+        return no_event();
+    }
+    let mut b = [0u8; 4];
+    let n = values::copy(s, l.at, 4, &mut b, 0);
+    if !parts::event_ok(&b[0..n]) {
+        return no_event();
+    }
+    let code = parts::three_at(&b, 0);
+    Event {
+        ok: true,
+        code: code,
+    }
+}
+
+// The originator of the EAS-ORG parameter.
+fn origin_of(s: &[u8], l: Leaf) -> Origin
+    ensures { λ r. ⌜ r ≡ originOf (now (s .entry)) l ⌝ }
+{
+    if l.count == 0 {
+        return Origin::Known(Originator::Civ);
+    }
+    let mut b = [0u8; 4];
+    let n = values::copy(s, l.at, 4, &mut b, 0);
+    if n != 3 {
+        return Origin::Unknown;
+    }
+    parts::originator_of(&b, 0)
+}
+
+fn is_located(l: Locations) -> bool
+    ensures { λ r. ⌜ r ≡ located l ⌝ }
+{
+    if l.bad {
+        return false;
+    }
+    l.count != 0
+}
+
+fn is_unplaced(l: Locations) -> bool
+    ensures { λ r. ⌜ r ≡ unplaced l ⌝ }
+{
+    if l.bad {
+        return false;
+    }
+    l.count == 0
+}
+
+fn seconds_between(t: Time, sent: u32) -> u32
+    ensures { λ r. ⌜ r ≡ instantIn t - sent ⌝ }
+{
+    match t {
+        Time::At(n) => {
+            if n <= sent {
+                return 0;
+            }
+            n - sent
+        }
+        Time::Bad => 0,
+    }
+}
+
+// The seconds from sent to the expires leaf; 0 where it is absent, malformed or not after sent.
+fn seconds_to(s: &[u8], l: Leaf, sent: u32) -> u32
+    ensures { λ r. ⌜ r ≡ secondsTo (now (s .entry)) l sent ⌝ }
+{
+    if l.count == 0 {
+        return 0;
+    }
+    let t = fields::time_at(s, l.at);
+    seconds_between(t, sent)
+}
+
+// Whether there is an info, a SAME eventCode, a SAME geocode and an expires.
+fn is_complete(m: Message) -> bool
+    ensures { λ r. ⌜ r ≡ every holds (complete m) ⌝ }
+{
+    let a = m.alert;
+    let i = a.info;
+    let events = i.events;
+    let same = events.same;
+    let locations = i.locations;
+    let expires = i.leaf[1];
+    if a.kept == 0 {
+        return false;
+    }
+    if same.count == 0 {
+        return false;
+    }
+    if is_unplaced(locations) {
+        return false;
+    }
+    expires.count != 0
+}
+
+fn is_quiet(m: Message) -> bool
+    ensures { λ r. ⌜ r ≡ quietOf m ⌝ }
+{
+    if m.kind != 3 {
+        return false;
+    }
+    !is_complete(m)
+}
+
+// ---- the judgement
+
+fn no_header(m: Message, number: u32, quiet: bool) -> Judged
+    ensures { λ r. ⌜ r ≡ without m number quiet ⌝ }
+{
+    Judged {
+        number: number,
+        field: m.field,
+        quiet: quiet,
+        body: parts::no_body(),
+        message: m,
+    }
+}
+
+fn body_with(o: Originator, event: [u8; 3], l: Locations, seconds: u32, sent: u32) -> Body
+    requires { ⌜ sent < span ⌝ }
+    ensures { λ r. ⌜ r ≡ bodyWith o event l seconds sent ⌝ }
+{
+    let on = clock::stamp_of(sent);
+    let list = l.list;
+    Body {
+        originator: o,
+        event: event,
+        count: l.count,
+        locations: list,
+        period: clock::period(seconds),
+        day: on.day,
+        hour: on.hour,
+        minute: on.minute,
+    }
+}
+
+// Numbers 11 to 14 of a message that passed 4 to 10 and is not quiet.
+fn alert_of(s: &[u8], m: Message) -> Judged
+    requires { ⌜ m .sent < span ⌝ }
+    ensures { λ r. ⌜ r ≡ alerted (now (s .entry)) m ⌝ }
+{
+    let a = m.alert;
+    let i = a.info;
+    let events = i.events;
+    let parameters = i.parameters;
+    let locations = i.locations;
+    let expires = i.leaf[1];
+    let event = event_of(s, events.same);
+    if !event.ok {
+        return no_header(m, 11, false);
+    }
+    let o = origin_of(s, parameters.originator);
+    let Origin::Known(originator) = o else {
+        return no_header(m, 12, false);
+    };
+    if !is_located(locations) {
+        return no_header(m, 13, false);
+    }
+    let seconds = seconds_to(s, expires, m.sent);
+    if seconds == 0 {
+        return no_header(m, 14, false);
+    }
+    let code = event.code;
+    Judged {
+        number: 0,
+        field: m.field,
+        quiet: false,
+        body: body_with(originator, code, locations, seconds, m.sent),
+        message: m,
+    }
+}
+
+// Judges a message.
+pub fn judge(s: &[u8]) -> Judged
+    ensures { λ r. ⌜ r ≡ judgedOf (now (s .entry)) ⌝ }
+{
+    let m = message::read(s);
+    if m.number != 0 {
+        return no_header(m, m.number, false);
+    }
+    if is_quiet(m) {
+        return no_header(m, 0, true);
+    }
+    alert_of(s, m)
+}
