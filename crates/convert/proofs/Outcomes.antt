@@ -5,7 +5,7 @@ use mathlib.Core.Path.{_≡_, refl, sym, ap, _∙_}
 use mathlib.Core.Bool.{Bool, true, false}
 use mathlib.Core.List.{List, []}
 use native.Mathlib.Omega.{arith}
-use borrow.Author.Tests.{eq-eqb, ne-eqb, eqb-false}
+use borrow.Author.Tests.{ne-eqb}
 use lib.ListN.{length}
 use lib.Seq.{sets}
 use lib.Dec.{eqb}
@@ -20,7 +20,7 @@ use Rattle.judgement.specs.Rules.{infoIn}
 use Rattle.judgement.specs.Judged.{judgedOf}
 use Rattle.judgement.specs.declared.Judged.{Judged}
 use Rattle.judgement.proofs.Bodies.{body-ok, message-kept}
-use Rattle.convert.specs.Convert.{Given, nothing, uriIn, alertGiven, Outcome, refusedWith, Ready, roomy, outcomeOf, convertOf, answerOf}
+use Rattle.convert.specs.Convert.{nothing, uriIn, alertGiven, Outcome, refusedWith, Ready, roomy, outcomeOf, convertOf, answerOf}
 use Rattle.convert.specs.declared.Converted.{Converted}
 
 -- ---- nothing given

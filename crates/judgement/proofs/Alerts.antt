@@ -6,9 +6,7 @@ use mathlib.Core.List.{List}
 use borrow.Author.Tests.{eq-eqb, ne-eqb}
 use Rattle.octets.specs.Bytes.{pick}
 use Rattle.values.specs.Value.{valueAt}
-use Rattle.parts.specs.Originator.{isKnown}
 use Rattle.parts.specs.declared.Originator.{Originator}
-use Rattle.parts.specs.declared.Origin.{Origin}
 use Rattle.parts.specs.declared.Origin.the-variants.{Known, Unknown}
 use Rattle.reads.specs.declared.Leaf.{Leaf}
 use Rattle.message.specs.declared.Message.{Message}

@@ -14,7 +14,6 @@ use Rattle.octets.specs.Bytes.{pick}
 use Rattle.octets.proofs.Tests.{and-right, each-of}
 use Rattle.clock.specs.Time.{span}
 use Rattle.clock.specs.Period.{periodOf}
-use Rattle.clock.specs.Stamp.{stampOf}
 use Rattle.clock.proofs.Periods.{period-is}
 use Rattle.clock.proofs.Stamps.{stamp-fits}
 use Rattle.values.specs.Value.{valueAt}

@@ -2,15 +2,15 @@
 --     event-judged         the first four characters are judged as the whole
 --     three-back           three that were put are the whole value
 --     origin-other         no originator has another length than three
-use Prim.Native.Nat.{ℕ, _-_, _<_}
+use Prim.Native.Nat.{ℕ, _-_}
 use mathlib.Core.Path.{_≡_, refl, sym, ap, _∙_}
-use mathlib.Core.Bool.{Bool, true, false}
-use mathlib.Core.List.{List, [], _∷_}
+use mathlib.Core.Bool.{Bool, false}
+use mathlib.Core.List.{List}
 use native.Mathlib.Omega.{arith}
 use borrow.Author.Tests.{ne-eqb}
 use lib.ListN.{length, take, drop, replicate, length-take}
 use lib.Seq.{sets, take-all}
-use Rattle.octets.specs.Bytes.{part, same}
+use Rattle.octets.specs.Bytes.{part}
 use Rattle.octets.specs.Text.{bytes}
 use Rattle.octets.proofs.Tests.{one-fails}
 use Rattle.octets.proofs.Sames.{same-long}

@@ -1,10 +1,7 @@
 -- By the numbers in their order; where none applies and the message is not quiet, all that it gives is put (Outcomes).
-use Prim.Native.Nat.{ℕ}
 use denote.Ref.{now}
-use mathlib.Core.Path.{_≡_, sym, ap, _∙_}
-use mathlib.Core.List.{List}
+use mathlib.Core.Path.{sym, ap, _∙_}
 use borrow.Author.Tests.{not-true, not-false}
-use lib.ListN.{length}
 use lib.Seq.{sets}
 use Rattle.convert.specs.Convert.{Outcome, answerOf}
 use Rattle.convert.proofs.Outcomes.{untouched, short, unnamed, refused, quiet, alert, ready}

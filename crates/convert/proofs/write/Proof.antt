@@ -1,10 +1,8 @@
 -- Header, text and uri are put, each into its own output.
-use mathlib.Core.Path.{_∙_}
-use native.Mathlib.Omega.{arith}
 use borrow.Author.Tests.{leb-true}
 use Rattle.octets.specs.Text.{bytes}
 use Rattle.octets.proofs.Tests.{each-of}
-use Rattle.convert.specs.Convert.{Ready, roomy, alertGiven, answerOf}
+use Rattle.convert.specs.Convert.{roomy, alertGiven, answerOf}
 use borrow.Author.Needs.{needs}
 use Rattle.convert.proofs.write.Statement.{statement}
 use Rattle.convert.proofs.write.Tie as tie

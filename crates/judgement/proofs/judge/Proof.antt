@@ -1,10 +1,7 @@
 -- The message's own numbers come first, then quiet Cancels; every instant lies in 2000 to 2099.
-use Prim.Native.Nat.{_<_}
 use denote.Ref.{now}
-use mathlib.Core.Path.{sym, ap, _∙_}
+use mathlib.Core.Path.{sym, _∙_}
 use borrow.Author.Tests.{eq-eqb, ne-eqb}
-use Rattle.clock.specs.Time.{span}
-use Rattle.message.specs.declared.Message.{Message}
 use Rattle.leaves.proofs.Fits.{sent-in}
 use Rattle.judgement.specs.Judged.{judgedBy}
 use borrow.Author.Needs.{needs}

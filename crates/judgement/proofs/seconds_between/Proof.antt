@@ -1,9 +1,5 @@
 -- An instant that is not later leaves nothing.
-use mathlib.Core.Path.{sym, ap, _∙_}
-use Prim.Native.Nat.{_-_}
 use native.Mathlib.Omega.{arith}
-use Rattle.clock.specs.declared.Time.{Time}
-use Rattle.message.specs.Judged.{instantIn}
 use borrow.Author.Needs.{needs}
 use Rattle.judgement.proofs.seconds_between.Statement.{statement}
 use Rattle.judgement.proofs.seconds_between.Tie as tie

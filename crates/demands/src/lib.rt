@@ -1,0 +1,1 @@
+// The maintainer's demands as theorems over the definitions that the calls promise. No code.
