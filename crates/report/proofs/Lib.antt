@@ -1,0 +1,5 @@
+pub mod Choices
+pub mod Lengths
+pub mod Fits
+pub mod Fronts
+pub mod Examples
