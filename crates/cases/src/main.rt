@@ -22,6 +22,9 @@ fn answer(line: &[u8], out: &mut [u8]) -> usize {
     if octets::equal(call, b"write") {
         return header_lines::write(asked, out);
     }
+    if octets::equal(call, b"convert") {
+        return convert_lines::convert(asked, out);
+    }
     if octets::equal(call, b"message") {
         return message_lines::found(asked, out);
     }

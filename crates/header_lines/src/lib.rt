@@ -1,14 +1,10 @@
 // The case lines `read` and `write`.
+use lines::LENT;
+use lines::ROOM;
 use octets::Num;
 use parts::Body;
 use parts::Originator;
 use parts::Parts;
-
-// As many bytes as the longest line can write in hexadecimal.
-const ROOM: usize = 100000;
-
-// The longest output that a line lends.
-const LENT: usize = 65280;
 
 // ---- read HEADER
 
@@ -197,16 +193,13 @@ pub fn write(asked: &[u8], out: &mut [u8]) -> usize {
     let mut bytes = [0u8; ROOM];
     let got = lines::unhex(lines::field(asked, station_at), &mut bytes);
     let cap_at = lines::next_field(asked, station_at);
-    let Num::Value(cap) = lines::decimal(lines::last_field(asked, cap_at)) else {
+    let Num::Value(cap) = lines::cap(lines::last_field(asked, cap_at)) else {
         return lines::put(out, 0, b"?");
     };
     if !v.ok {
         return lines::put(out, 0, b"?");
     }
     if !got.ok {
-        return lines::put(out, 0, b"?");
-    }
-    if 65280 < cap {
         return lines::put(out, 0, b"?");
     }
     write_with(asked, lines::front(&bytes, got.len), v, cap as usize, out)

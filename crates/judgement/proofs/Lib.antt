@@ -1,3 +1,4 @@
 pub mod Codes
 pub mod Alerts
 pub mod Bodies
+pub mod Answers

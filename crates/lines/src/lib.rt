@@ -3,6 +3,12 @@ use octets::Num;
 ghost use Prim.Native.Nat.{_≤_};
 ghost use lib.ListN.{length};
 
+// As many bytes as the longest line can write in hexadecimal.
+pub const ROOM: usize = 100000;
+
+// The longest output that a line lends.
+pub const LENT: usize = 65280;
+
 // How many bytes hexadecimal digits stand for; not ok where they are no such digits, or too many for the slice lent.
 pub struct Bytes {
     pub ok: bool,
@@ -133,6 +139,17 @@ pub fn decimal(t: &[u8]) -> Num {
         return Num::Bad;
     }
     octets::number(t, 0, n)
+}
+
+// The length of an output that a line lends.
+pub fn cap(t: &[u8]) -> Num {
+    let Num::Value(n) = decimal(t) else {
+        return Num::Bad;
+    };
+    if LENT < (n as usize) {
+        return Num::Bad;
+    }
+    Num::Value(n)
 }
 
 // ---- answered: each puts its part at `at` and says where it ends, or puts nothing where it does not fit

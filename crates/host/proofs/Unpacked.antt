@@ -1,0 +1,97 @@
+-- What a host takes out of an answer, part by part as the functions of include/stuiverhaag.h do, is what was answered.
+--     convert-unpacked, read-unpacked, write-unpacked     for each call
+--     refusal-alone                                       a refused conversion is its number and its field
+use Prim.Native.Nat.{ℕ, _+_, _*_, _/_, _%_, _≤_}
+use mathlib.Core.Bool.{Bool, true, false}
+use mathlib.Core.List.{List}
+use mathlib.Core.Path.{_≡_, refl, ap, _∙_}
+use native.Mathlib.Omega.{arith}
+use lib.Dec.{leb, eqb}
+use lib.ListN.{length}
+use Rattle.octets.specs.Bytes.{pick}
+use Rattle.parts.specs.Originator.{numberOf}
+use Rattle.parts.specs.Parts.{bodyOk, stationOk}
+use Rattle.parts.specs.declared.Parts.{Parts}
+use Rattle.header.proofs.WriteThenRead.{write-small}
+use Rattle.header.specs.Header.{partsOf, refusal, headerForm, readOf, writeNumber, writeOf}
+use Rattle.header.specs.declared.Read.{Read}
+use Rattle.header.specs.declared.Written.{Written}
+use Rattle.convert.proofs.Answers.{convert-refused}
+use Rattle.convert.specs.Convert.{Outcome, convertOf, answerOf}
+use Rattle.convert.specs.declared.Converted.{Converted}
+use Rattle.host.proofs.Packing.{convert-narrow, read-narrow}
+use Rattle.host.specs.Packed.{bit8, bit16, bit24, bit28, bit32, bit48, bit55, packedConverted, NarrowConverted, NarrowBody, packedRead, packedWritten}
+
+-- ---- a conversion
+
+pub record HasConverted (n : ℕ) (c : Converted) : Type 0 where
+  pub number : n % 256 ≡ c .number
+  pub field : n / bit8 % 256 ≡ c .field
+  pub header : n / bit16 % 256 ≡ c .header
+  pub audio : n / bit24 % 16 ≡ c .audio
+  pub carry : n / bit28 % 16 ≡ pick (c .carry) 1 0
+  pub uri : n / bit32 % 65536 ≡ c .uri
+  pub text : n / bit48 % 65536 ≡ c .text
+
+carried : (b : Bool) → (pick {A = ℕ} b 1 0 ≤ 1) × (pick {A = ℕ} b bit28 0 ≡ pick b 1 0 * bit28)
+carried true = (omega arith, refl)
+carried false = (omega arith, refl)
+
+has-converted : (c : Converted) → NarrowConverted c → HasConverted (packedConverted c) c
+has-converted c w =
+    let one = carried (c .carry) .0 in
+    let is = carried (c .carry) .1 in
+    record { number = omega arith; field = omega arith; header = omega arith; audio = omega arith; carry = omega arith; uri = omega arith; text = omega arith }
+
+pub convert-unpacked : (s station : List ℕ) (h t u : ℕ) → let c = answerOf (convertOf s station h t u) in HasConverted (packedConverted c) c
+convert-unpacked s station h t u = has-converted (answerOf (convertOf s station h t u)) (convert-narrow s station h t u _ refl)
+
+pub refusal-alone : (s station : List ℕ) (h t u : ℕ) → let o = convertOf s station h t u in (o .number ≡ 0 → ⊥) → packedConverted (answerOf o) ≡ o .number + o .field * bit8
+unfolding answerOf
+refusal-alone s station h t u e =
+    ap (λ (x : Outcome). packedConverted (answerOf x)) (convert-refused s station h t u e) ∙ omega arith
+
+-- ---- a header read
+
+pub record HasRead (n : ℕ) (r : Read) : Type 0 where
+  pub number : n % 256 ≡ r .number
+  pub originator : n / bit8 % 256 ≡ pick (eqb (r .number) 0) (numberOf (r .parts .body .originator)) 0
+  pub locations : n / bit16 % 256 ≡ r .parts .body .count
+  pub hour : n / bit24 % 256 ≡ r .parts .body .hour
+  pub period : n / bit32 % 65536 ≡ r .parts .body .period
+  pub minute : n / bit48 % 128 ≡ r .parts .body .minute
+  pub day : n / bit55 % 512 ≡ r .parts .body .day
+
+pub read-unpacked : (s : List ℕ) → HasRead (packedRead (readOf s)) (readOf s)
+unfolding packedRead readOf
+read-unpacked s = go (headerForm s) (read-narrow s (readOf s) refl)
+  where
+    found : Bool → Read
+    found b = pick {A = Read} b (record { number = 0; parts = partsOf s }) refusal
+
+    go : (b : Bool) → NarrowBody (found b .parts .body) → HasRead (packedRead (found b)) (found b)
+    go true w = record { number = omega arith; originator = omega arith; locations = omega arith; hour = omega arith; period = omega arith; minute = omega arith; day = omega arith }
+    go false w = record { number = refl; originator = refl; locations = refl; hour = refl; period = refl; minute = refl; day = refl }
+
+-- ---- a header written
+
+pub record HasWritten (n : ℕ) (w : Written) : Type 0 where
+  pub number : n % 256 ≡ w .number
+  pub len : n / bit16 % 256 ≡ w .len
+
+number-small : (d : List ℕ) (p : Parts) → writeOf d p .number ≤ 17
+unfolding writeOf writeNumber
+number-small d p = go (leb 252 (length d)) (stationOk (p .station)) (bodyOk (p .body))
+  where
+    go : (a b c : Bool) → pick {A = ℕ} a (pick b (pick c 0 17) 3) 2 ≤ 17
+    go false b c = omega arith
+    go true false c = omega arith
+    go true true false = omega arith
+    go true true true = omega arith
+
+pub write-unpacked : (d : List ℕ) (p : Parts) → HasWritten (packedWritten (writeOf d p)) (writeOf d p)
+unfolding packedWritten
+write-unpacked d p =
+    let l = write-small d p in
+    let n = number-small d p in
+    record { number = omega arith; len = omega arith }

@@ -1,0 +1,129 @@
+// What the bench host calls from C: numbers and lent slices in, one number out. include/stuiverhaag.h declares the same.
+use convert::Converted;
+use parts::Body;
+ghost use mathlib.Core.Path.{_≡_};
+ghost use Prim.Native.Nat.{_≤_};
+ghost use lib.ListN.{length};
+ghost use lib.Seq.{sets};
+ghost use Rattle.octets.specs.Bytes.{pick};
+ghost use Rattle.parts.specs.Asked.{askedParts};
+ghost use Rattle.header.specs.Header.{readOf, writeOf, writeBytes};
+ghost use Rattle.convert.specs.Convert.{convertOf, answerOf};
+ghost use Rattle.host.specs.Packed.{bit28, packedConverted, NarrowConverted, packedBody, NarrowBody, packedRead, packedWritten};
+
+// What a bit counts.
+const BIT8: u64 = 256;
+
+const BIT16: u64 = 65536;
+
+const BIT24: u64 = 16777216;
+
+const BIT28: u64 = 268435456;
+
+const BIT32: u64 = 4294967296;
+
+const BIT48: u64 = 281474976710656;
+
+const BIT55: u64 = 36028797018963968;
+
+// ---- a conversion
+
+fn pack_carry(carry: bool) -> u64
+    ensures { λ r. ⌜ r ≡ pick carry bit28 0 ⌝ }
+    ensures { λ r. ⌜ r ≤ bit28 ⌝ }
+{
+    if carry { BIT28 } else { 0 }
+}
+
+fn pack_converted(c: Converted) -> u64
+    requires { ⌜ NarrowConverted c ⌝ }
+    ensures { λ r. ⌜ r ≡ packedConverted c ⌝ }
+{
+    let number = c.number as u64;
+    let field = c.field as u64;
+    let header = c.header as u64;
+    let audio = c.audio as u64;
+    let carry = pack_carry(c.carry);
+    let uri = c.uri as u64;
+    let text = c.text as u64;
+    number + field * BIT8 + header * BIT16 + audio * BIT24 + carry + uri * BIT32 + text * BIT48
+}
+
+// Converts a message: the header, the text and the uri from the start of each output, or 2 to 14 and nothing written.
+#[no_mangle]
+pub extern "C" fn stuiverhaag_convert(
+    message: &[u8],
+    station: &[u8],
+    header: &mut [u8],
+    text: &mut [u8],
+    uri: &mut [u8],
+) -> u64
+    ensures { λ r. ⌜ r ≡ packedConverted (answerOf (convertOf (now (message .entry)) (now (station .entry)) (length (now (header .entry))) (length (now (text .entry))) (length (now (uri .entry))))) ⌝ }
+    ensures { λ _. ⌜ now (header .exit) ≡ sets (now (header .entry)) 0 (convertOf (now (message .entry)) (now (station .entry)) (length (now (header .entry))) (length (now (text .entry))) (length (now (uri .entry))) .given .header) ⌝ }
+    ensures { λ _. ⌜ now (text .exit) ≡ sets (now (text .entry)) 0 (convertOf (now (message .entry)) (now (station .entry)) (length (now (header .entry))) (length (now (text .entry))) (length (now (uri .entry))) .given .text) ⌝ }
+    ensures { λ _. ⌜ now (uri .exit) ≡ sets (now (uri .entry)) 0 (convertOf (now (message .entry)) (now (station .entry)) (length (now (header .entry))) (length (now (text .entry))) (length (now (uri .entry))) .given .uri) ⌝ }
+{
+    let c = convert::convert(message, station, header, text, uri);
+    pack_converted(c)
+}
+
+// ---- a header
+
+// The parts of a body that are numbers.
+fn pack_body(b: Body) -> u64
+    requires { ⌜ NarrowBody b ⌝ }
+    ensures { λ r. ⌜ r ≡ packedBody b ⌝ }
+{
+    let o = b.originator;
+    let originator = parts::originator_number(o) as u64;
+    let count = b.count as u64;
+    let hour = b.hour as u64;
+    let period = b.period as u64;
+    let minute = b.minute as u64;
+    let day = b.day as u64;
+    originator * BIT8 + count * BIT16 + hour * BIT24 + period * BIT32 + minute * BIT48 + day * BIT55
+}
+
+// The parts of a header, or 17.
+#[no_mangle]
+pub extern "C" fn stuiverhaag_read_header(header: &[u8]) -> u64
+    ensures { λ r. ⌜ r ≡ packedRead (readOf (now (header .entry))) ⌝ }
+{
+    let r = header::read_header(header);
+    if r.number != 0 {
+        return r.number as u64;
+    }
+    let p = r.parts;
+    let b = p.body;
+    pack_body(b)
+}
+
+// Writes a header from the start of `out`: its length, or 2, 3 or 17 and nothing written.
+#[no_mangle]
+pub extern "C" fn stuiverhaag_write_header(
+    originator: u32,
+    event: &[u8],
+    locations: &[u8],
+    period: u32,
+    day: u32,
+    hour: u32,
+    minute: u32,
+    station: &[u8],
+    out: &mut [u8],
+) -> u64
+    ensures { λ r. ⌜ r ≡ packedWritten (writeOf (now (out .entry)) (askedParts originator (now (event .entry)) (now (locations .entry)) period day hour minute (now (station .entry)))) ⌝ }
+    ensures { λ _. ⌜ now (out .exit) ≡ writeBytes (now (out .entry)) (askedParts originator (now (event .entry)) (now (locations .entry)) period day hour minute (now (station .entry))) ⌝ }
+{
+    let w = header::write_asked(
+        originator,
+        event,
+        locations,
+        period,
+        day,
+        hour,
+        minute,
+        station,
+        out,
+    );
+    (w.number as u64) + (w.len as u64) * BIT16
+}
