@@ -4,7 +4,7 @@
  * bash, from the root of the repository:
  *
  *     tools/build-host target/convert examples/convert.c
- *     . tools/run-program && run_host target/convert <tests/example.xml
+ *     . tools/run-program && run_host target/convert <examples/alert.xml
  */
 #include "stuiverhaag.h"
 

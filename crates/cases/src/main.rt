@@ -25,6 +25,9 @@ fn answer(line: &[u8], out: &mut [u8]) -> usize {
     if octets::equal(call, b"convert") {
         return convert_lines::convert(asked, out);
     }
+    if octets::equal(call, b"program") {
+        return convert_lines::program(asked, out);
+    }
     if octets::equal(call, b"message") {
         return message_lines::found(asked, out);
     }

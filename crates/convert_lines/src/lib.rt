@@ -1,8 +1,10 @@
-// The case line `convert MESSAGE STATION HEADERCAP TEXTCAP URICAP`.
+// The case lines `convert` and `program`.
 use convert::Converted;
 use lines::LENT;
 use lines::ROOM;
 use octets::Num;
+
+// ---- convert MESSAGE STATION HEADERCAP TEXTCAP URICAP
 
 // The lengths of the outputs that a line lends.
 struct Caps {
@@ -100,4 +102,17 @@ pub fn convert(asked: &[u8], out: &mut [u8]) -> usize {
         v,
         out,
     )
+}
+
+// ---- program MESSAGE
+
+pub fn program(asked: &[u8], out: &mut [u8]) -> usize {
+    let mut message = [0u8; ROOM];
+    let mut printed = [0u8; 4096];
+    let m = lines::unhex(asked, &mut message);
+    if !m.ok {
+        return lines::put(out, 0, b"?");
+    }
+    let n = report::program(lines::front(&message, m.len), &mut printed);
+    lines::put_hex(out, 0, lines::front(&printed, n))
 }

@@ -184,6 +184,19 @@ fn write_with(asked: &[u8], station: &[u8], v: Numbers, cap: usize, out: &mut [u
     lines::put_hex(out, spaced, lines::front(&space, w.len))
 }
 
+// Whether originator, event and locations, which are text, have a byte each.
+fn has_words(asked: &[u8]) -> bool {
+    let event_at = lines::next_field(asked, 0);
+    let locations_at = lines::next_field(asked, event_at);
+    if lines::field(asked, 0).len() == 0 {
+        return false;
+    }
+    if lines::field(asked, event_at).len() == 0 {
+        return false;
+    }
+    lines::field(asked, locations_at).len() != 0
+}
+
 pub fn write(asked: &[u8], out: &mut [u8]) -> usize {
     let event_at = lines::next_field(asked, 0);
     let locations_at = lines::next_field(asked, event_at);
@@ -196,6 +209,9 @@ pub fn write(asked: &[u8], out: &mut [u8]) -> usize {
     let Num::Value(cap) = lines::cap(lines::last_field(asked, cap_at)) else {
         return lines::put(out, 0, b"?");
     };
+    if !has_words(asked) {
+        return lines::put(out, 0, b"?");
+    }
     if !v.ok {
         return lines::put(out, 0, b"?");
     }
