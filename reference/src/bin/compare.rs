@@ -131,8 +131,10 @@ impl Tally {
         self.numbers.get(call).map_or(0, |counts| counts.values().sum())
     }
 
-    fn print(&self) {
-        for (call, _) in CALLS {
+    /// Prints the counts of the calls that were asked for, and of any other that was compared.
+    fn print(&self, calls: &[&str]) {
+        let asked = |call: &&str| calls.contains(call) || self.compared(call) > 0;
+        for call in CALLS.iter().map(|(call, _)| *call).filter(asked) {
             let counts = self.numbers.get(call).into_iter().flatten();
             let each: Vec<String> = counts.map(|(n, count)| format!("{n}: {count}")).collect();
             let zero = self.count(call, 0);
@@ -220,7 +222,7 @@ fn run() -> Result<(), String> {
     let cases = Source::open("the cases", &arguments.cases)?;
     let sources = arguments.answers.iter().map(|(name, path)| Source::open(name, path));
     let tally = compare(cases, sources.collect::<Result<_, _>>()?)?;
-    tally.print();
+    tally.print(&arguments.calls);
     let faults = tally.faults(&arguments.calls, arguments.least);
     if faults.is_empty() {
         return Ok(());
