@@ -44,12 +44,6 @@ fn three_caps(asked: &[u8], at: usize) -> Caps {
     }
 }
 
-// A space and t in hexadecimal.
-fn put_bytes(out: &mut [u8], at: usize, t: &[u8]) -> usize {
-    let end = lines::put(out, at, b" ");
-    lines::put_hex(out, end, t)
-}
-
 fn put_carry(out: &mut [u8], at: usize, carry: bool) -> usize {
     if carry {
         return lines::put(out, at, b" 1");
@@ -61,11 +55,11 @@ fn put_carry(out: &mut [u8], at: usize, carry: bool) -> usize {
 fn put_converted(out: &mut [u8], c: Converted, header: &[u8], text: &[u8], uri: &[u8]) -> usize {
     let number = lines::put_decimal(out, 0, c.number);
     let field = lines::put_spaced(out, number, c.field);
-    let first = put_bytes(out, field, lines::front(header, c.header));
+    let first = lines::put_bytes(out, field, lines::front(header, c.header));
     let audio = lines::put_spaced(out, first, c.audio);
-    let second = put_bytes(out, audio, lines::front(uri, c.uri));
+    let second = lines::put_bytes(out, audio, lines::front(uri, c.uri));
     let carry = put_carry(out, second, c.carry);
-    put_bytes(out, carry, lines::front(text, c.text))
+    lines::put_bytes(out, carry, lines::front(text, c.text))
 }
 
 fn convert_with(message: &[u8], station: &[u8], v: Caps, out: &mut [u8]) -> usize {

@@ -180,8 +180,7 @@ fn write_with(asked: &[u8], station: &[u8], v: Numbers, cap: usize, out: &mut [u
         lent,
     );
     let end = lines::put_decimal(out, 0, w.number);
-    let spaced = lines::put(out, end, b" ");
-    lines::put_hex(out, spaced, lines::front(&space, w.len))
+    lines::put_bytes(out, end, lines::front(&space, w.len))
 }
 
 // Whether originator, event and locations, which are text, have a byte each.

@@ -244,6 +244,12 @@ pub fn put_hex(out: &mut [u8], at: usize, t: &[u8]) -> usize {
     at + 2 * i
 }
 
+// A space and t in hexadecimal.
+pub fn put_bytes(out: &mut [u8], at: usize, t: &[u8]) -> usize {
+    let end = put(out, at, b" ");
+    put_hex(out, end, t)
+}
+
 // A space and a decimal number.
 pub fn put_spaced(out: &mut [u8], at: usize, v: u32) -> usize {
     let end = put(out, at, b" ");
