@@ -14,6 +14,7 @@
  * first of them is a number:
  *
  *    0  done
+ *    1  the board breaks its rules
  *    2  a lent output is shorter than STUIVERHAAG_HEADER, STUIVERHAAG_TEXT or STUIVERHAAG_URI
  *    3  the station is not 8 bytes of 32 to 126 without `-` and `+`
  *    4  the message has no byte, or more than 32,768
@@ -28,9 +29,11 @@
  *   12  the originator is none of the four
  *   13  the SAME location is absent or malformed
  *   14  expires is absent, malformed or not after sent
+ *   15  the board has fewer empty records than must be added
+ *   16  nothing is due
  *   17  no header: unreadable bytes, or parts that no header has
  *
- * Where several apply, the lowest is returned. Any number but 0 is a refusal: no lent byte has
+ * Where several apply, the lowest is returned, but 16 before 15. Any number but 0 is a refusal: no lent byte has
  * changed, and every part but the number is 0, and after 7 the field. After 0 an output begins
  * with what was written, as long as the answer says, and its bytes behind that are as they were.
  */
@@ -39,6 +42,10 @@
 
 #include <stddef.h>
 #include <stdint.h>
+
+/* How long a record of a board is, and how many records a board has at most. */
+#define STUIVERHAAG_RECORD 384
+#define STUIVERHAAG_RECORDS 170
 
 /* How long a lent output has to be, whatever is written into it. */
 #define STUIVERHAAG_HEADER 252
@@ -82,6 +89,26 @@ uint64_t stuiverhaag_write_header(uint32_t originator,
                                   const uint8_t *station, size_t station_length,
                                   uint8_t *out, size_t out_length);
 
+/*
+ * Offers a message to a board: adds its notice, unless it is a Cancel that activates nothing, and
+ * a withdrawal for each reference of an Update or Cancel, all or none; what the board holds
+ * already is not added again. Lent to be read: the message. Lent to be read and written: the
+ * board, 1 to STUIVERHAAG_RECORDS records of STUIVERHAAG_RECORD bytes, at first all zero.
+ *
+ * Numbers 0, 1 and 4 to 15. After 0 the answer has added.
+ */
+uint64_t stuiverhaag_offer(uint8_t *board, size_t board_length,
+                           const uint8_t *message, size_t message_length);
+
+/*
+ * Hands out the first due header of a board, and adds its record of having been aired. The board
+ * is lent to be read and written. The header, without its station and zero-filled to 243 bytes,
+ * stands at index 133 of the record that the index counts, before the call and after it.
+ *
+ * Numbers 0, 1, 16 and 15, asked in this order. After 0 the answer has index.
+ */
+uint64_t stuiverhaag_hand_out(uint8_t *board, size_t board_length);
+
 /* ---- the parts of an answer */
 
 /* The `count` bits of an answer from bit `first` on. */
@@ -96,7 +123,7 @@ static inline unsigned stuiverhaag_number(uint64_t answer)
     return stuiverhaag_bits(answer, 0, 8);
 }
 
-/* Of stuiverhaag_convert: after 7 the field, else 0. */
+/* Of stuiverhaag_convert and stuiverhaag_offer: after 7 the field, else 0. */
 static inline unsigned stuiverhaag_field(uint64_t answer)
 {
     return stuiverhaag_bits(answer, 8, 8);
@@ -130,6 +157,21 @@ static inline size_t stuiverhaag_uri_length(uint64_t answer)
 static inline size_t stuiverhaag_text_length(uint64_t answer)
 {
     return stuiverhaag_bits(answer, 48, 16);
+}
+
+/* Of stuiverhaag_offer: how many records were added. */
+static inline unsigned stuiverhaag_added(uint64_t answer)
+{
+    return stuiverhaag_bits(answer, 16, 16);
+}
+
+/*
+ * Of stuiverhaag_hand_out: the index of the smallest notice that made the header due, counted
+ * from 0. The aired record is added behind all notices, so that it holds after the call too.
+ */
+static inline unsigned stuiverhaag_index(uint64_t answer)
+{
+    return stuiverhaag_bits(answer, 16, 16);
 }
 
 /* Of stuiverhaag_read_header: 1 PEP, 2 EAS, 3 WXR, 4 CIV. */

@@ -1,5 +1,5 @@
 /*
- * Answers case lines (docs/CASES.md) as a host in C: `convert`, `read` and `write`, and `?` to any other.
+ * Answers case lines (docs/CASES.md) as a host in C: `convert`, `read`, `write`, `offer` and `handout`, and `?` to any other.
  *
  * Every slice is lent between guard bytes, and an output is filled with a pattern. After a call every
  * byte that it must leave alone is compared with what it was: the guards, what was lent to be read, an
@@ -392,6 +392,57 @@ static bool answer_convert(const struct line *line, struct loans *loans)
     return true;
 }
 
+/* After 0 any byte of a board may be another; after a refusal none is. */
+static void board_answered(struct lent *board, uint64_t answer)
+{
+    check_refusal(answer);
+    board->written = stuiverhaag_number(answer) == 0 ? board->length : 0;
+}
+
+/* offer BOARD MESSAGE */
+static bool answer_offer(const struct line *line, struct loans *loans)
+{
+    struct lent *board;
+    const struct lent *message;
+    uint64_t answer;
+
+    if (line->count != 3)
+        return false;
+    board = lend_hex(loans, line->field[1]);
+    message = lend_hex(loans, line->field[2]);
+    if (board == NULL || message == NULL)
+        return false;
+    note(loans);
+    answer = stuiverhaag_offer(board->bytes, board->length, message->bytes, message->length);
+    board_answered(board, answer);
+    compare(loans);
+    printf("%u %u %u ", stuiverhaag_number(answer), stuiverhaag_field(answer), stuiverhaag_added(answer));
+    print_hex(board->bytes, board->length);
+    putchar('\n');
+    return true;
+}
+
+/* handout BOARD */
+static bool answer_hand_out(const struct line *line, struct loans *loans)
+{
+    struct lent *board;
+    uint64_t answer;
+
+    if (line->count != 2)
+        return false;
+    board = lend_hex(loans, line->field[1]);
+    if (board == NULL)
+        return false;
+    note(loans);
+    answer = stuiverhaag_hand_out(board->bytes, board->length);
+    board_answered(board, answer);
+    compare(loans);
+    printf("%u %u ", stuiverhaag_number(answer), stuiverhaag_index(answer));
+    print_hex(board->bytes, board->length);
+    putchar('\n');
+    return true;
+}
+
 static bool answer_line(const struct line *line, struct loans *loans)
 {
     if (line->count == 0)
@@ -402,6 +453,10 @@ static bool answer_line(const struct line *line, struct loans *loans)
         return answer_write(line, loans);
     if (is(line->field[0], "convert"))
         return answer_convert(line, loans);
+    if (is(line->field[0], "offer"))
+        return answer_offer(line, loans);
+    if (is(line->field[0], "handout"))
+        return answer_hand_out(line, loans);
     return false;
 }
 

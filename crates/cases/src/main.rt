@@ -25,6 +25,15 @@ fn answer(line: &[u8], out: &mut [u8]) -> usize {
     if octets::equal(call, b"convert") {
         return convert_lines::convert(asked, out);
     }
+    if octets::equal(call, b"offer") {
+        return board_lines::offer(asked, out);
+    }
+    if octets::equal(call, b"handout") {
+        return board_lines::hand_out(asked, out);
+    }
+    if octets::equal(call, b"list") {
+        return board_lines::list(asked, out);
+    }
     if octets::equal(call, b"program") {
         return convert_lines::program(asked, out);
     }

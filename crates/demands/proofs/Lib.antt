@@ -1,2 +1,3 @@
 pub mod Numbers
 pub mod Demand2
+pub mod Demand3

@@ -8,6 +8,8 @@ use Rattle.parts.specs.declared.Body.{Body}
 use Rattle.header.specs.declared.Read.{Read}
 use Rattle.header.specs.declared.Written.{Written}
 use Rattle.convert.specs.declared.Converted.{Converted}
+use Rattle.board.specs.declared.Handed.{Handed}
+use Rattle.offers.specs.declared.Offered.{Offered}
 
 -- ---- what a bit counts
 
@@ -71,3 +73,13 @@ packedRead r = pick (eqb (r .number) 0) (packedBody (r .parts .body)) (r .number
 -- 16 the header's length
 unfoldable pub packedWritten : Written → ℕ
 packedWritten w = w .number + w .len * bit16
+
+-- ---- a board
+
+-- an offer: 8 field, 16 how many records were added
+abbrev pub packedOffered : Offered → ℕ
+packedOffered o = o .number + o .field * bit8 + o .added * bit16
+
+-- a hand-out: 16 the index
+abbrev pub packedHanded : Handed → ℕ
+packedHanded h = h .number + h .index * bit16

@@ -9,7 +9,9 @@ ghost use Rattle.octets.specs.Bytes.{pick};
 ghost use Rattle.parts.specs.Asked.{askedParts};
 ghost use Rattle.header.specs.Header.{readOf, writeOf, writeBytes};
 ghost use Rattle.convert.specs.Convert.{convertOf, answerOf};
-ghost use Rattle.host.specs.Packed.{bit28, packedConverted, NarrowConverted, packedBody, NarrowBody, packedRead, packedWritten};
+ghost use Rattle.board.specs.Calls.{handOf};
+ghost use Rattle.offers.specs.Offer.{offerOf};
+ghost use Rattle.host.specs.Packed.{bit28, packedConverted, NarrowConverted, packedBody, NarrowBody, packedRead, packedWritten, packedOffered, packedHanded};
 
 // What a bit counts.
 const BIT8: u64 = 256;
@@ -126,4 +128,26 @@ pub extern "C" fn stuiverhaag_write_header(
         out,
     );
     (w.number as u64) + (w.len as u64) * BIT16
+}
+
+// ---- a board
+
+// Offers a message: how many records were added, or 1 and 4 to 15 and nothing written.
+#[no_mangle]
+pub extern "C" fn stuiverhaag_offer(s: &mut [u8], message: &[u8]) -> u64
+    ensures { λ r. ⌜ r ≡ packedOffered (offerOf (now (s .entry)) (now (message .entry)) .answer) ⌝ }
+    ensures { λ _. ⌜ now (s .exit) ≡ offerOf (now (s .entry)) (now (message .entry)) .bytes ⌝ }
+{
+    let o = offers::offer(s, message);
+    (o.number as u64) + (o.field as u64) * BIT8 + (o.added as u64) * BIT16
+}
+
+// Hands out the first due header: the index of the smallest notice that makes it due, or 1, 16 or 15 and nothing written.
+#[no_mangle]
+pub extern "C" fn stuiverhaag_hand_out(s: &mut [u8]) -> u64
+    ensures { λ r. ⌜ r ≡ packedHanded (handOf (now (s .entry)) .answer) ⌝ }
+    ensures { λ _. ⌜ now (s .exit) ≡ handOf (now (s .entry)) .bytes ⌝ }
+{
+    let h = board::hand_out(s);
+    (h.number as u64) + (h.index as u64) * BIT16
 }

@@ -1,0 +1,5 @@
+pub mod Boards
+pub mod Finds
+pub mod Answers
+pub mod Keeps
+pub mod Demand3

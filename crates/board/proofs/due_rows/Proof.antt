@@ -1,0 +1,117 @@
+-- k rows stand, and the scan behind the last of their headers finds the next.
+use Prim.Native.Nat.{ℕ, _-_, _≤_, _<_}
+use mathlib.Core.Path.{_≡_}
+use native.Mathlib.Omega.{arith}
+use lib.ListN.{length}
+use lib.ListN.{length-replicate}
+use Rattle.ledger.specs.Board.{live, due}
+use Rattle.slots.specs.Slots.{recs}
+use Rattle.board.specs.Marks.{Marks}
+use Rattle.board.proofs.Finds.{Standing, stand-start, row-within, stand-next, stand-end, due-most}
+use borrow.Author.Needs.{needs}
+use Rattle.board.proofs.due_rows.Statement.{statement}
+use Rattle.board.proofs.due_rows.Tie as tie
+use Rattle.board.proofs.due_rows.Reads as reads
+use Rattle.board.proofs.due_rows.Lts as lts
+use Rattle.board.proofs.count_alike.Reads as count-alike-reads
+use Rattle.board.proofs.first_after.Reads as first-after-reads
+use Rattle.board.proofs.header_at.Reads as header-at-reads
+use Rattle.board.proofs.live_marks.Reads as live-marks-reads
+use Rattle.board.proofs.put_row.Reads as put-row-reads
+
+abbrev Inv-loop : tie.InvT-loop
+Inv-loop s n marks out₀ k₀ j₀ out k j = Marks (live (recs n s)) (recs n s) marks × (length out₀ ≡ 340) × Standing n s out₀ out k j
+
+abbrev μ-loop : tie.MeasureT-loop
+μ-loop s n marks out₀ k₀ j₀ out k j = length (due (recs n s)) - k
+
+-- in a turn, a header is left
+room : (c : tie.In-loop Inv-loop μ-loop) → (c .before .loop .k < length (due (recs (c .before .before .before .before .before .before .before .args .n) (c .before .before .before .before .before .before .before .args .s .now)))) × (length (due (recs (c .before .before .before .before .before .before .before .args .n) (c .before .before .before .before .before .before .before .args .s .now))) ≤ c .before .before .before .before .before .before .before .args .n) × (c .before .loop .j < c .before .before .before .before .before .before .before .args .n) × (c .before .before .before .before .before .before .before .args .n ≤ 170)
+room c =
+    let l = c .before .loop in
+    let a = c .before .before .before .before .before .before .before .args in
+    (row-within (a .n) (a .s .now) _ (l .out) (l .k) (l .j) (l .inv .2) (c .loop-test .taken), due-most (a .n) (a .s .now), c .loop-test .taken, c .before .before .before .before .before .before .before .pre .1)
+
+live-marks-requires : tie.Need-live-marks-requires Inv-loop μ-loop
+live-marks-requires c κs = search needs
+
+sub-first-after : tie.Need-sub-first-after Inv-loop μ-loop
+sub-first-after c = search needs
+
+part-first-after-start : tie.Need-part-first-after-start Inv-loop μ-loop
+part-first-after-start c = search needs
+
+part-first-after-end : tie.Need-part-first-after-end Inv-loop μ-loop
+part-first-after-end c = search needs
+
+first-after-requires : tie.Need-first-after-requires Inv-loop μ-loop
+first-after-requires c κs =
+    let p = c .before .before .before .before .pre in
+    (p .0, p .1, c .before .before .live-marks .ensures)
+
+loop-holds : tie.Need-loop-holds Inv-loop μ-loop
+loop-holds c =
+    let s = c .before .before .before .before .before in
+    (c .before .before .before .live-marks .ensures, length-replicate {A = ℕ} 340 0, stand-start (s .args .n) (s .args .s .now) _ _ (s .pre .0) (c .first-after .ensures))
+
+count-alike-requires : tie.Need-count-alike-requires Inv-loop μ-loop
+count-alike-requires c κs =
+    let p = c .before .before .before .before .before .before .before .before .pre in
+    (p .0, p .1, c .before .loop-test .taken, c .before .before .loop .inv .0)
+
+slice-aggregate-put-row : tie.Need-slice-aggregate-put-row Inv-loop μ-loop
+slice-aggregate-put-row c = search needs
+
+put-row-requires : tie.Need-put-row-requires Inv-loop μ-loop
+put-row-requires c κs =
+    let l = c .before .before .before .before .loop in
+    (omega (arith, room (c .before .before .before), l .inv .1, l .inv .2 .same-long), omega (arith, room (c .before .before .before)), omega (arith, c .before .count-alike .ensures .1, room (c .before .before .before)))
+
+add-k : tie.Need-add-k Inv-loop μ-loop
+add-k c = omega (arith, room (c .before .before .before .before .before))
+
+header-at-requires : tie.Need-header-at-requires Inv-loop μ-loop
+header-at-requires c κs = omega (arith, room (c .before .before .before .before .before .before), c .before .before .before .before .before .before .before .before .before .before .before .before .before .pre)
+
+first-after-requires-2 : tie.Need-first-after-requires-2 Inv-loop μ-loop
+first-after-requires-2 c κs =
+    let p = c .before .before .before .before .before .before .before .before .before .before .before .before .before .before .pre in
+    (p .0, p .1, c .before .before .before .before .before .before .before .before .loop .inv .0)
+
+loop-less : tie.Need-loop-less Inv-loop μ-loop
+loop-less c = omega (arith, room (c .before .before .before .before .before .before .before .before))
+
+loop-again : tie.Need-loop-again Inv-loop μ-loop
+loop-again c =
+    let l = c .before .before .before .before .before .before .before .before .before .loop in
+    let a = c .before .before .before .before .before .before .before .before .before .before .before .before .before .before .before .args in
+    (l .inv .0, l .inv .1, stand-next (a .n) (a .s .now) _ (l .out) (l .k) (l .j) (l .inv .2) (c .before .before .before .before .before .before .count-alike .result) _ _ _ (c .before .before .before .before .before .before .before .before .loop-test .taken) (c .before .before .before .before .before .before .count-alike .ensures .0) (c .before .before .before .before .put-row .ensures) (c .before .header-at .ensures) (c .first-after2 .ensures))
+
+returns : tie.Need-returns Inv-loop μ-loop
+returns c =
+    let l = c .before .loop in
+    let a = c .before .before .before .before .before .before .before .args in
+    let w = stand-end (a .n) (a .s .now) _ (l .out) (l .k) (l .j) (l .inv .2) (c .loop-test .left) (l .inv .1) (c .before .before .before .before .before .before .before .pre .1) in
+    (w .0, (w .1, omega (arith, l .inv .2 .fits, due-most (a .n) (a .s .now), c .before .before .before .before .before .before .before .pre)))
+
+pub due-rows-spec : {M : Type 1} → statement M
+due-rows-spec =
+    tie.close
+    (tie.spec
+    Inv-loop
+    μ-loop
+    live-marks-requires
+    sub-first-after
+    part-first-after-start
+    part-first-after-end
+    first-after-requires
+    loop-holds
+    count-alike-requires
+    slice-aggregate-put-row
+    put-row-requires
+    add-k
+    header-at-requires
+    first-after-requires-2
+    loop-less
+    loop-again
+    returns)

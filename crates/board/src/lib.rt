@@ -1,0 +1,405 @@
+// The board in lent bytes: its rules, an offer of records, the hand-out of the first due header, and the list of the due headers.
+use octets::Order;
+use records::Record;
+ghost use mathlib.Core.Path.{_≡_};
+ghost use mathlib.Core.Bool.{false};
+ghost use mathlib.Core.List.{[], _∷_};
+ghost use Prim.Native.Nat.{_+_, _*_, _≤_, _<_};
+ghost use lib.ListN.{length, take};
+ghost use lib.Seq.{sets};
+ghost use Rattle.octets.specs.Bytes.{pick, every};
+ghost use Rattle.records.specs.Record.{recordOk, aired};
+ghost use Rattle.ledger.specs.Sorted.{ascending};
+ghost use Rattle.ledger.specs.Board.{carried, live, carries, countOf, rowsOf};
+ghost use Rattle.ledger.specs.Scan.{after, bestOf};
+ghost use Rattle.slots.specs.Slots.{rec, recs};
+ghost use Rattle.board.specs.Rules.{boardOf, boardOk, added};
+ghost use Rattle.board.specs.Calls.{offerOf, handOf, listOf, numbers};
+ghost use Rattle.board.specs.Marks.{Marks};
+
+// The most records that a board holds, their bytes, and two numbers for the row of each.
+const MOST: usize = 170;
+
+const BYTES: usize = 65280;
+
+const NUMBERS: usize = 340;
+
+// What an offer of records answers: how many were added.
+pub struct Added {
+    pub number: u32,
+    pub added: usize,
+}
+
+// What a hand-out answers: the index of the smallest notice that makes the header due.
+pub struct Handed {
+    pub number: u32,
+    pub index: usize,
+}
+
+// What the list answers: how many headers are due.
+pub struct Listed {
+    pub number: u32,
+    pub count: usize,
+}
+
+// ---- the rules
+
+// How many records stand before the first empty one.
+pub fn filled(s: &[u8]) -> usize
+    ensures { λ r. ⌜ r ≡ length (boardOf (now (s .entry))) ⌝ }
+{
+    let m = s.len() / Record::SIZE;
+    let mut i: usize = 0;
+    while i < m {
+        let at = i * Record::SIZE;
+        if s[at] == 0 {
+            return i;
+        }
+        i += 1;
+    }
+    m
+}
+
+// Whether the first n records are strictly ascending.
+fn is_ascending(s: &[u8], n: usize) -> bool
+    requires { ⌜ n * 384 ≤ length (now s) ⌝ }
+    ensures { λ r. ⌜ r ≡ ascending (recs n (now (s .entry))) ⌝ }
+{
+    let mut i: usize = 0;
+    while i + 1 < n {
+        match octets::compare(slots::record_at(s, i), slots::record_at(s, i + 1)) {
+            Order::Less => {}
+            Order::Same => return false,
+            Order::More => return false,
+        }
+        i += 1;
+    }
+    true
+}
+
+// Whether each of the first n records keeps its rules.
+fn are_records(s: &[u8], n: usize) -> bool
+    requires { ⌜ n * 384 ≤ length (now s) ⌝ }
+    ensures { λ r. ⌜ r ≡ every recordOk (recs n (now (s .entry))) ⌝ }
+{
+    let mut i: usize = 0;
+    while i < n {
+        if !records::is_record(slots::record_at(s, i)) {
+            return false;
+        }
+        i += 1;
+    }
+    true
+}
+
+// Whether a board keeps the rules.
+pub fn is_board(s: &[u8]) -> bool
+    ensures { λ r. ⌜ r ≡ boardOk (now (s .entry)) ⌝ }
+{
+    let len = s.len();
+    if len < Record::SIZE {
+        return false;
+    }
+    if BYTES < len {
+        return false;
+    }
+    if len % Record::SIZE != 0 {
+        return false;
+    }
+    let n = filled(s);
+    if !is_ascending(s, n) {
+        return false;
+    }
+    if !are_records(s, n) {
+        return false;
+    }
+    let at = n * Record::SIZE;
+    records::are_zeros(&s[at..])
+}
+
+// ---- offers
+
+// Offers the first m records of the batch: all or none.
+pub fn offer_records(s: &mut [u8], batch: &[u8], m: usize) -> Added
+    requires { ⌜ m * 384 ≤ length (now batch) ⌝ }
+    ensures { λ r. ⌜ r ≡ offerOf (now (s .entry)) (recs m (now (batch .entry))) .answer ⌝ }
+    ensures { λ _. ⌜ now (s .exit) ≡ offerOf (now (s .entry)) (recs m (now (batch .entry))) .bytes ⌝ }
+    ensures { λ r. ⌜ (r .number ≤ 17) × (r .added ≤ 170) ⌝ }
+{
+    if !is_board(s) {
+        return Added {
+            number: 1,
+            added: 0,
+        };
+    }
+    let n = filled(s);
+    let k = slots::tally(s, n, batch, m);
+    if s.len() < (n + k) * Record::SIZE {
+        return Added {
+            number: 15,
+            added: 0,
+        };
+    }
+    slots::add_all(s, n, batch, m);
+    Added {
+        number: 0,
+        added: k,
+    }
+}
+
+// ---- the due headers
+
+// The header of record i.
+fn header_at(s: &[u8], i: usize) -> &[u8]
+    requires { ⌜ (i + 1) * 384 ≤ length (now s) ⌝ }
+    ensures { λ r. ⌜ now r ≡ carried (rec i (now (s .entry))) ⌝ }
+{
+    let from = i * Record::SIZE + Record::HEADER;
+    let to = i * Record::SIZE + Record::ZEROS;
+    &s[from..to]
+}
+
+// Whether record i is a notice that no record withdraws, with a header that no record airs.
+fn is_live(s: &[u8], n: usize, i: usize) -> bool
+    requires { ⌜ (n * 384 ≤ length (now s)) × (i < n) ⌝ }
+    ensures { λ r. ⌜ r ≡ live (recs n (now (s .entry))) (rec i (now (s .entry))) ⌝ }
+{
+    let at = i * Record::SIZE;
+    if s[at] != Record::NOTICE {
+        return false;
+    }
+    let from = at + Record::SENT;
+    let to = at + Record::HEADER;
+    let w = records::withdrawal_of(&s[from..to]);
+    if slots::holds(s, n, &w.bytes) {
+        return false;
+    }
+    let a = Record::aired(header_at(s, i));
+    !slots::holds(s, n, &a.bytes)
+}
+
+// Which of the first n records are live.
+fn live_marks(s: &[u8], n: usize) -> [bool; MOST]
+    requires { ⌜ (n * 384 ≤ length (now s)) × (n ≤ 170) ⌝ }
+    ensures { λ r. ⌜ Marks (live (recs n (now (s .entry)))) (recs n (now (s .entry))) r ⌝ }
+{
+    let mut marks = [false; MOST];
+    let mut i: usize = 0;
+    while i < n {
+        marks[i] = is_live(s, n, i);
+        i += 1;
+    }
+    marks
+}
+
+// Whether record i is live, with a header that comes after `last`.
+fn comes_after(s: &[u8], n: usize, marks: &[bool; MOST], last: &[u8], i: usize) -> bool
+    requires { ⌜ (n * 384 ≤ length (now s)) × (n ≤ 170) × (i < n) × Marks (live (recs n (now s))) (recs n (now s)) (now marks) ⌝ }
+    ensures { λ r. ⌜ r ≡ after (recs n (now (s .entry))) (now (last .entry)) (rec i (now (s .entry))) ⌝ }
+{
+    if !marks[i] {
+        return false;
+    }
+    match octets::compare(last, header_at(s, i)) {
+        Order::Less => true,
+        Order::Same => false,
+        Order::More => false,
+    }
+}
+
+// The better of the best so far and record i. Where there is none yet, best is n.
+fn better(s: &[u8], n: usize, marks: &[bool; MOST], last: &[u8], best: usize, i: usize) -> usize
+    requires { ⌜ (n * 384 ≤ length (now s)) × (n ≤ 170) × (i < n) × Marks (live (recs n (now s))) (recs n (now s)) (now marks) ⌝ }
+    requires { ⌜ best ≡ bestOf n (after (recs n (now s)) (now last)) (recs i (now s)) ⌝ }
+    ensures { λ r. ⌜ r ≡ bestOf n (after (recs n (now (s .entry))) (now (last .entry))) (recs (i + 1) (now (s .entry))) ⌝ }
+{
+    if !comes_after(s, n, marks, last, i) {
+        return best;
+    }
+    if best == n {
+        return i;
+    }
+    match octets::compare(header_at(s, i), header_at(s, best)) {
+        Order::Less => i,
+        Order::Same => best,
+        Order::More => best,
+    }
+}
+
+// The index of the smallest notice that makes the first due header after `last` due, or n where there is none.
+fn first_after(s: &[u8], n: usize, marks: &[bool; MOST], last: &[u8]) -> usize
+    requires { ⌜ (n * 384 ≤ length (now s)) × (n ≤ 170) × Marks (live (recs n (now s))) (recs n (now s)) (now marks) ⌝ }
+    ensures { λ r. ⌜ r ≡ bestOf n (after (recs n (now (s .entry))) (now (last .entry))) (recs n (now (s .entry))) ⌝ }
+{
+    let mut best = n;
+    let mut i: usize = 0;
+    while i < n {
+        best = better(s, n, marks, last, best, i);
+        i += 1;
+    }
+    best
+}
+
+// ---- the hand-out
+
+// The index of the smallest notice that makes the first due header due, or n where nothing is due.
+fn first_due(s: &[u8], n: usize) -> usize
+    requires { ⌜ (n * 384 ≤ length (now s)) × (n ≤ 170) ⌝ }
+    ensures { λ r. ⌜ r ≡ bestOf n (after (recs n (now (s .entry))) []) (recs n (now (s .entry))) ⌝ }
+{
+    let marks = live_marks(s, n);
+    first_after(s, n, &marks, &s[0..0])
+}
+
+// Adds the aired record of record j's header to the first n records.
+fn air(s: &mut [u8], n: usize, j: usize)
+    requires { ⌜ (j < n) × ((n + 1) * 384 ≤ length (now s)) ⌝ }
+    ensures { λ _. ⌜ now (s .exit) ≡ added (now (s .entry)) n (aired (carried (rec j (now (s .entry))))) ⌝ }
+{
+    let a = Record::aired(header_at(s, j));
+    slots::add(s, n, &a.bytes);
+}
+
+// Hands out the first due header: its aired record is added.
+pub fn hand_out(s: &mut [u8]) -> Handed
+    ensures { λ r. ⌜ r ≡ handOf (now (s .entry)) .answer ⌝ }
+    ensures { λ _. ⌜ now (s .exit) ≡ handOf (now (s .entry)) .bytes ⌝ }
+    ensures { λ r. ⌜ (r .number ≤ 17) × (r .index < 170) ⌝ }
+{
+    if !is_board(s) {
+        return Handed {
+            number: 1,
+            index: 0,
+        };
+    }
+    let n = filled(s);
+    let j = first_due(s, n);
+    if j == n {
+        return Handed {
+            number: 16,
+            index: 0,
+        };
+    }
+    if s.len() < (n + 1) * Record::SIZE {
+        return Handed {
+            number: 15,
+            index: 0,
+        };
+    }
+    air(s, n, j);
+    Handed {
+        number: 0,
+        index: j,
+    }
+}
+
+// ---- the list
+
+// 1 where record i is live with the header of record j, else 0.
+fn alike(s: &[u8], n: usize, marks: &[bool; MOST], j: usize, i: usize) -> usize
+    requires { ⌜ (n * 384 ≤ length (now s)) × (n ≤ 170) × (j < n) × (i < n) × Marks (live (recs n (now s))) (recs n (now s)) (now marks) ⌝ }
+    ensures { λ r. ⌜ r ≡ pick (carries (live (recs n (now (s .entry)))) (carried (rec j (now (s .entry)))) (rec i (now (s .entry)))) 1 0 ⌝ }
+    ensures { λ r. ⌜ r ≤ 1 ⌝ }
+{
+    if !marks[i] {
+        return 0;
+    }
+    if !octets::equal(header_at(s, i), header_at(s, j)) {
+        return 0;
+    }
+    1
+}
+
+// How many of the first n records are live with the header of record j.
+fn count_alike(s: &[u8], n: usize, marks: &[bool; MOST], j: usize) -> usize
+    requires { ⌜ (n * 384 ≤ length (now s)) × (n ≤ 170) × (j < n) × Marks (live (recs n (now s))) (recs n (now s)) (now marks) ⌝ }
+    ensures { λ r. ⌜ r ≡ countOf (live (recs n (now (s .entry)))) (carried (rec j (now (s .entry)))) (recs n (now (s .entry))) ⌝ }
+    ensures { λ r. ⌜ r ≤ n ⌝ }
+{
+    let mut k: usize = 0;
+    let mut i: usize = 0;
+    while i < n {
+        k = k + alike(s, n, marks, j, i);
+        i += 1;
+    }
+    k
+}
+
+// Row k, as index and count.
+fn put_row(out: &mut [u32], k: usize, index: usize, count: usize)
+    requires { ⌜ (k * 2 + 2 ≤ length (now out)) × (index ≤ 170) × (count ≤ 170) ⌝ }
+    ensures { λ _. ⌜ now (out .exit) ≡ sets (now (out .entry)) (k * 2) (index ∷ count ∷ []) ⌝ }
+{
+    let at = k * 2;
+    out[at] = index as u32;
+    out[at + 1] = count as u32;
+}
+
+// Rows one behind another, and how many.
+struct Rows {
+    numbers: [u32; NUMBERS],
+    due: usize,
+}
+
+// The rows of the due headers among the first n records.
+fn due_rows(s: &[u8], n: usize) -> Rows
+    requires { ⌜ (n * 384 ≤ length (now s)) × (n ≤ 170) ⌝ }
+    ensures { λ r. ⌜ r .due ≡ length (rowsOf (recs n (now (s .entry)))) ⌝ }
+    ensures { λ r. ⌜ take (r .due * 2) (r .numbers) ≡ numbers (rowsOf (recs n (now (s .entry)))) ⌝ }
+    ensures { λ r. ⌜ r .due ≤ 170 ⌝ }
+{
+    let marks = live_marks(s, n);
+    let mut out = [0u32; NUMBERS];
+    let mut k: usize = 0;
+    let mut j = first_after(s, n, &marks, &s[0..0]);
+    while j < n {
+        let count = count_alike(s, n, &marks, j);
+        put_row(&mut out, k, j, count);
+        k += 1;
+        j = first_after(s, n, &marks, header_at(s, j));
+    }
+    Rows {
+        numbers: out,
+        due: k,
+    }
+}
+
+// Puts the first n of the numbers at the start of out.
+fn put_numbers(out: &mut [u32], from: &[u32], n: usize)
+    requires { ⌜ (n ≤ length (now out)) × (n ≤ length (now from)) ⌝ }
+    ensures { λ _. ⌜ now (out .exit) ≡ sets (now (out .entry)) 0 (take n (now (from .entry))) ⌝ }
+{
+    let mut i: usize = 0;
+    while i < n {
+        out[i] = from[i];
+        i += 1;
+    }
+}
+
+// Lists the due headers in header order: a row of index and count for each, two numbers to a row.
+pub fn list(s: &[u8], rows: &mut [u32]) -> Listed
+    ensures { λ r. ⌜ r ≡ listOf (now (s .entry)) (length (now (rows .entry))) .answer ⌝ }
+    ensures { λ _. ⌜ now (rows .exit) ≡ sets (now (rows .entry)) 0 (numbers (listOf (now (s .entry)) (length (now (rows .entry))) .rows)) ⌝ }
+    ensures { λ r. ⌜ (r .number ≤ 17) × (r .count ≤ 170) ⌝ }
+{
+    if !is_board(s) {
+        return Listed {
+            number: 1,
+            count: 0,
+        };
+    }
+    let listed = due_rows(s, filled(s));
+    let count = listed.due;
+    if rows.len() / 2 < count {
+        return Listed {
+            number: 2,
+            count: 0,
+        };
+    }
+    let numbers = listed.numbers;
+    put_numbers(rows, &numbers, count * 2);
+    Listed {
+        number: 0,
+        count: count,
+    }
+}

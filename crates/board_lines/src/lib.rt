@@ -1,0 +1,136 @@
+// The case lines `offer`, `handout` and `list`.
+use lines::ROOM;
+use octets::Num;
+
+// As many rows as a board can have due headers, of two numbers each.
+const ROWS: usize = 170;
+
+const NUMBERS: usize = 340;
+
+// A count or an index on a board, which is 170 at most.
+fn small(n: usize) -> u32 {
+    if n < 171 {
+        return n as u32;
+    }
+    171
+}
+
+// ---- offer BOARD MESSAGE
+
+fn offer_to(board: &mut [u8], message: &[u8], out: &mut [u8]) -> usize {
+    let o = offers::offer(board, message);
+    let number = lines::put_decimal(out, 0, o.number);
+    let field = lines::put_spaced(out, number, o.field);
+    let added = lines::put_spaced(out, field, small(o.added));
+    lines::put_bytes(out, added, board)
+}
+
+pub fn offer(asked: &[u8], out: &mut [u8]) -> usize {
+    let message_at = lines::next_field(asked, 0);
+    let mut board = [0u8; ROOM];
+    let mut message = [0u8; ROOM];
+    let b = lines::unhex(lines::field(asked, 0), &mut board);
+    let m = lines::unhex(lines::last_field(asked, message_at), &mut message);
+    if !b.ok {
+        return lines::put(out, 0, b"?");
+    }
+    if !m.ok {
+        return lines::put(out, 0, b"?");
+    }
+    offer_to(
+        lines::front_of(&mut board, b.len),
+        lines::front(&message, m.len),
+        out,
+    )
+}
+
+// ---- handout BOARD
+
+fn hand_out_of(board: &mut [u8], out: &mut [u8]) -> usize {
+    let h = board::hand_out(board);
+    let number = lines::put_decimal(out, 0, h.number);
+    let index = lines::put_spaced(out, number, small(h.index));
+    lines::put_bytes(out, index, board)
+}
+
+pub fn hand_out(asked: &[u8], out: &mut [u8]) -> usize {
+    let mut board = [0u8; ROOM];
+    let b = lines::unhex(asked, &mut board);
+    if !b.ok {
+        return lines::put(out, 0, b"?");
+    }
+    hand_out_of(lines::front_of(&mut board, b.len), out)
+}
+
+// ---- list BOARD CAP
+
+// A comma, but not before the first of them.
+fn put_comma(out: &mut [u8], at: usize, k: usize) -> usize {
+    if k == 0 {
+        return at;
+    }
+    lines::put(out, at, b",")
+}
+
+// A row, `index:count`.
+fn put_row(out: &mut [u8], at: usize, index: u32, count: u32) -> usize {
+    let first = lines::put_decimal(out, at, index);
+    let second = lines::put(out, first, b":");
+    lines::put_decimal(out, second, count)
+}
+
+// The first n rows, `-` where there is none.
+fn put_rows(out: &mut [u8], at: usize, rows: &[u32], n: usize) -> usize {
+    if n == 0 {
+        return lines::put(out, at, b"-");
+    }
+    let mut end = at;
+    let mut k: usize = 0;
+    while k < ROWS {
+        if n <= k {
+            return end;
+        }
+        if rows.len() <= 2 * k + 1 {
+            return end;
+        }
+        let next = put_comma(out, end, k);
+        end = put_row(out, next, rows[2 * k], rows[2 * k + 1]);
+        k += 1;
+    }
+    end
+}
+
+// The numbers of the first `cap` rows, or all where there are fewer.
+fn lent_of(rows: &mut [u32], cap: usize) -> &mut [u32] {
+    if cap < rows.len() / 2 {
+        return &mut rows[..2 * cap];
+    }
+    rows
+}
+
+// The answer of the list into as many of the rows as `cap`; no board has more due headers than ROWS.
+fn list_into(board: &[u8], rows: &mut [u32], cap: usize, out: &mut [u8]) -> usize {
+    let l = board::list(board, lent_of(rows, cap));
+    let number = lines::put_decimal(out, 0, l.number);
+    let count = lines::put_spaced(out, number, small(l.count));
+    let end = lines::put(out, count, b" ");
+    put_rows(out, end, rows, l.count)
+}
+
+fn list_of(board: &[u8], cap: usize, out: &mut [u8]) -> usize {
+    let mut rows = [0u32; NUMBERS];
+    list_into(board, &mut rows, cap, out)
+}
+
+pub fn list(asked: &[u8], out: &mut [u8]) -> usize {
+    let cap_at = lines::next_field(asked, 0);
+    let Num::Value(cap) = lines::cap(lines::last_field(asked, cap_at)) else {
+        return lines::put(out, 0, b"?");
+    };
+    let mut board = [0u8; ROOM];
+    let b = lines::unhex(lines::field(asked, 0), &mut board);
+    if !b.ok {
+        return lines::put(out, 0, b"?");
+    }
+    list_of(lines::front(&board, b.len), cap as usize, out)
+}

@@ -1,0 +1,166 @@
+-- The four sentences of demand 3, of a board as the list of its filled records.
+--     same-board     the same alerts, each once or more, in any order: equal boards
+--     due-exactly    what is then due
+--     in-order       hand-outs, while there is room, give the due headers in byte order, each once
+--     once           over any mixture of calls no header is handed out twice
+use Prim.Native.Nat.{ℕ, zero, suc, _+_, _≤_}
+use mathlib.Core.Bool.{Bool, true, false}
+use mathlib.Core.Path.{_≡_, refl, sym, ap, _∙_, subst}
+use mathlib.Core.Logic.{_⊎_, inl, inr, ⊎-elim, _↔_}
+use mathlib.Core.List.{List, [], _∷_, _++_, map}
+use native.Mathlib.Omega.{arith}
+use lib.Dec.{leb}
+use lib.ListN.{length, take}
+use borrow.Author.Tests.{le-leb}
+use Rattle.octets.specs.declared.Order.the-variants.{Less}
+use Rattle.octets.specs.Bytes.{pick}
+use Rattle.octets.specs.Order.{cmp}
+use Rattle.records.specs.Record.{kind, key, notice, withdrawal, aired}
+use Rattle.records.proofs.Records.{withdrawal-inj, kind-notice, kind-withdrawal, kind-aired, key-notice}
+use Rattle.ledger.specs.Sorted.{In, Sorted, insert, insertAll}
+use Rattle.ledger.specs.Board.{carried, due, Due, Alert, records, Shaped, Carried, offer, offers, Taken, After, handOutOf, hands, Call, offered, handedOut, given, Once}
+use Rattle.ledger.proofs.Sorts.{in-insert, in-insertAll, insertAll-sorted, insert-length, sorted-ext, not-before-self, in-append, in-map}
+use Rattle.ledger.proofs.Dues.{carried-notice, in-due, due-sorted, due-aired}
+
+-- an offer that has room
+offer-taken : (cap : ℕ) (a : Alert) (b : List (List ℕ)) → length (insertAll (records a) b) ≤ cap → offer cap a b ≡ insertAll (records a) b
+offer-taken cap a b h = ap (λ (t : Bool). pick t (insertAll (records a) b) b) (le-leb (length (insertAll (records a) b)) cap h)
+
+-- whatever a call does, what is held stays, and the board stays in order
+pick-both : {A : Type 0} (P : A → Type 0) (t : Bool) (x y : A) → P x → P y → P (pick t x y)
+pick-both P true x y p q = p
+pick-both P false x y p q = q
+
+offer-keeps : (cap : ℕ) (a : Alert) (b : List (List ℕ)) (r : List ℕ) → In r b → In r (offer cap a b)
+offer-keeps cap a b r m = pick-both (In r) (leb (length (insertAll (records a) b)) cap) (insertAll (records a) b) b (in-insertAll r (records a) b .1 (inr m)) m
+
+offer-sorted : (cap : ℕ) (a : Alert) (b : List (List ℕ)) → Sorted b → Sorted (offer cap a b)
+offer-sorted cap a b s = pick-both Sorted (leb (length (insertAll (records a) b)) cap) (insertAll (records a) b) b (insertAll-sorted (records a) b s) s
+
+pub offers-sorted : (cap : ℕ) (l : List Alert) (b : List (List ℕ)) → Sorted b → Sorted (offers cap l b)
+offers-sorted cap [] b s = s
+offers-sorted cap (a ∷ l) b s = offers-sorted cap l (offer cap a b) (offer-sorted cap a b s)
+
+-- the members of a board after offers that were all taken
+abbrev Sent : List ℕ → List Alert → Type 0
+Sent y l = (a : Alert) × In a l × In y (records a)
+
+in-offers : (cap : ℕ) (y : List ℕ) (l : List Alert) (b : List (List ℕ)) → Taken cap l b → In y (offers cap l b) ↔ (Sent y l ⊎ In y b)
+in-offers cap y [] b t = (inr, ⊎-elim (λ w. absurd (w .1)) (λ m. m))
+in-offers cap y (a ∷ l) b t = go (in-offers cap y l (offer cap a b) (t .1)) (subst (λ (x : List (List ℕ)). In y x ↔ (In y (records a) ⊎ In y b)) (sym (offer-taken cap a b (t .0))) (in-insertAll y (records a) b))
+  where
+    go : (In y (offers cap l (offer cap a b)) ↔ (Sent y l ⊎ In y (offer cap a b))) → (In y (offer cap a b) ↔ (In y (records a) ⊎ In y b)) → In y (offers cap l (offer cap a b)) ↔ (Sent y (a ∷ l) ⊎ In y b)
+    go f g = (
+      λ m. ⊎-elim (λ w. inl (w .0, inr (w .1), w .2)) (λ k. ⊎-elim (λ r. inl (a, inl refl, r)) inr (g .0 k)) (f .0 m),
+      ⊎-elim (λ w. ⊎-elim (λ p. f .1 (inr (g .1 (inl (subst (λ (x : Alert). In y (records x)) p (w .2)))))) (λ m. f .1 (inl (w .0, m, w .2))) (w .1)) (λ k. f .1 (inr (g .1 (inr k)))),
+    )
+
+in-offers-nil : (cap : ℕ) (y : List ℕ) (l : List Alert) → Taken cap l [] → In y (offers cap l []) ↔ Sent y l
+in-offers-nil cap y l t = (λ m. ⊎-elim (λ w. w) absurd (in-offers cap y l [] t .0 m), λ w. in-offers cap y l [] t .1 (inl w))
+
+-- ---- sentence 1: the same alerts, each once or more, in any order, on two empty boards, leave equal filled records
+pub same-board : (cap cap′ : ℕ) (l l′ : List Alert) → Taken cap l [] → Taken cap′ l′ []
+    → ((a : Alert) → In a l → In a l′) → ((a : Alert) → In a l′ → In a l)
+    → offers cap l [] ≡ offers cap′ l′ []
+same-board cap cap′ l l′ t t′ f g =
+    sorted-ext (offers cap l []) (offers cap′ l′ []) (offers-sorted cap l [] tt) (offers-sorted cap′ l′ [] tt)
+    (λ y m. let w = in-offers-nil cap y l t .0 m in in-offers-nil cap′ y l′ t′ .1 (w .0, f (w .0) (w .1), w .2))
+    (λ y m. let w = in-offers-nil cap′ y l′ t′ .0 m in in-offers-nil cap y l t .1 (w .0, g (w .0) (w .1), w .2))
+
+in-records : (y : List ℕ) (a : Alert) → In y (records a) ↔ (((h : List ℕ) × In h (a .carries) × (y ≡ notice (a .own) h)) ⊎ ((k : List ℕ) × In k (a .names) × (y ≡ withdrawal k)))
+in-records y a = (
+  λ m. ⊎-elim (λ k. inl (in-map (notice (a .own)) y (a .carries) .0 k)) (λ k. inr (in-map withdrawal y (a .names) .0 k)) (in-append y (map (notice (a .own)) (a .carries)) (map withdrawal (a .names)) .0 m),
+  ⊎-elim (λ w. in-append y (map (notice (a .own)) (a .carries)) (map withdrawal (a .names)) .1 (inl (in-map (notice (a .own)) y (a .carries) .1 w)))
+      (λ w. in-append y (map (notice (a .own)) (a .carries)) (map withdrawal (a .names)) .1 (inr (in-map withdrawal y (a .names) .1 w))),
+)
+
+withdrawn-named : (k : List ℕ) (a : Alert) → In (withdrawal k) (records a) → In k (a .names)
+withdrawn-named k a m = ⊎-elim (λ w. absurd (let q = sym (kind-withdrawal k) ∙ ap kind (w .2) ∙ kind-notice (a .own) (w .0) in omega arith)) (λ w. subst (λ (x : List ℕ). In x (a .names)) (sym (withdrawal-inj k (w .0) (w .2))) (w .1)) (in-records (withdrawal k) a .0 m)
+
+not-aired : (h : List ℕ) (a : Alert) → In (aired h) (records a) → ⊥
+not-aired h a m = ⊎-elim (λ w. let q = sym (kind-aired h) ∙ ap kind (w .2) ∙ kind-notice (a .own) (w .0) in omega arith) (λ w. let q = sym (kind-aired h) ∙ ap kind (w .2) ∙ kind-withdrawal (w .0) in omega arith) (in-records (aired h) a .0 m)
+
+-- ---- sentence 2: what is then due
+
+module _ (cap : ℕ) (l : List Alert) (t : Taken cap l []) (shaped : (a : Alert) → In a l → Shaped a) (h : List ℕ) where
+  due-carried : Due (offers cap l []) h → Carried l h
+  due-carried d = go (in-offers-nil cap (d .by) l t .0 (d .held))
+    where
+      from : (a : Alert) → In a l → (x : List ℕ) → In x (a .carries) → d .by ≡ notice (a .own) x → Carried l h
+      from a m x c p =
+          let e : carried (notice (a .own) x) ≡ x = carried-notice (a .own) x (shaped a m .own-long) (shaped a m .carried-long x c) in
+          let k : key (d .by) ≡ a .own = ap key p ∙ key-notice (a .own) x (shaped a m .own-long) in
+          record {
+            by = a;
+            taken = m;
+            carries = subst (λ (y : List ℕ). In y (a .carries)) (sym e ∙ ap carried (sym p) ∙ d .carries) c;
+            not-named = λ a′ m′ n. d .not-withdrawn (subst (λ (y : List ℕ). In (withdrawal y) (offers cap l [])) (sym k) (in-offers-nil cap (withdrawal (a .own)) l t .1 (a′, m′, in-records (withdrawal (a .own)) a′ .1 (inr (a .own, n, refl)))));
+          }
+
+      go : Sent (d .by) l → Carried l h
+      go w = ⊎-elim (λ v. from (w .0) (w .1) (v .0) (v .1) (v .2)) (λ v. absurd (let q = sym (d .is-notice) ∙ ap kind (v .2) ∙ kind-withdrawal (v .0) in omega arith)) (in-records (d .by) (w .0) .0 (w .2))
+
+  carried-due : Carried l h → Due (offers cap l []) h
+  carried-due c =
+      let a = c .by in
+      let s = shaped (c .by) (c .taken) in
+      record {
+        by = notice (c .by .own) h;
+        held = in-offers-nil cap (notice (c .by .own) h) l t .1 (c .by, c .taken, in-records (notice (c .by .own) h) (c .by) .1 (inl (h, c .carries, refl)));
+        is-notice = kind-notice (c .by .own) h;
+        carries = carried-notice (c .by .own) h (s .own-long) (s .carried-long h (c .carries));
+        not-withdrawn = λ m. let w = in-offers-nil cap (withdrawal (key (notice (c .by .own) h))) l t .0 m in c .not-named (w .0) (w .1) (subst (λ (y : List ℕ). In y (w .0 .names)) (key-notice (c .by .own) h (s .own-long)) (withdrawn-named (key (notice (c .by .own) h)) (w .0) (w .2)));
+        not-aired = λ m. let w = in-offers-nil cap (aired h) l t .0 m in not-aired h (w .0) (w .2);
+      }
+
+  pub due-exactly : In h (due (offers cap l [])) ↔ Carried l h
+  due-exactly = (λ m. due-carried (in-due (offers cap l []) h .0 m), λ c. in-due (offers cap l []) h .1 (carried-due c))
+
+-- ---- sentence 3: hand-outs, while there is room, give the due headers in byte order, each once
+
+due-next : (b : List (List ℕ)) (h : List ℕ) (hs : List (List ℕ)) → due b ≡ h ∷ hs → due (insert (aired h) b) ≡ hs
+due-next b h hs e =
+    sorted-ext (due (insert (aired h) b)) hs (due-sorted (insert (aired h) b)) (s .1)
+    (λ y m. let w = due-aired b h y .0 (in-due (insert (aired h) b) y .0 m) in ⊎-elim (λ p. absurd (w .1 p)) (λ k. k) (subst (λ (x : List (List ℕ)). In y x) e (in-due b y .1 (w .0))))
+    (λ y m. in-due (insert (aired h) b) y .1 (due-aired b h y .1 (in-due b y .0 (subst (λ (x : List (List ℕ)). In y x) (sym e) (inr m)), λ p. not-before-self h (subst (λ (x : List ℕ). cmp h x ≡ Less) p (s .0 y m)))))
+  where
+    s : Sorted (h ∷ hs)
+    s = subst Sorted e (due-sorted b)
+
+pub in-order : (cap n : ℕ) (b : List (List ℕ)) → length b + n ≤ cap → hands cap n b ≡ take n (due b)
+in-order cap zero b room = refl
+in-order cap (suc n) b room = go (due b) refl (λ b′ r. in-order cap n b′ r)
+  where
+    none : (m : ℕ) (b′ : List (List ℕ)) → due b′ ≡ [] → hands cap m b′ ≡ []
+    none zero b′ e = refl
+    none (suc m) b′ e = rw e (none m b′ e)
+
+    go : (d : List (List ℕ)) → due b ≡ d → ((b′ : List (List ℕ)) → length b′ + n ≤ cap → hands cap n b′ ≡ take n (due b′)) → handOutOf cap b d .given ++ hands cap n (handOutOf cap b d .board) ≡ take (suc n) d
+    go [] e ih = none n b e
+    go (h ∷ hs) e ih =
+        rw (le-leb (length (insert (aired h) b)) cap (omega (arith, insert-length (aired h) b .1)))
+        (ap (λ (x : List (List ℕ)). h ∷ x) (ih (insert (aired h) b) (omega (arith, insert-length (aired h) b .1)) ∙ ap (take n) (due-next b h hs e)))
+
+-- ---- sentence 4: over any mixture of calls no header is handed out twice
+
+never-again : (cap : ℕ) (cs : List Call) (b : List (List ℕ)) (h : List ℕ) → In (aired h) b → In h (given cap cs b) → ⊥
+never-again cap [] b h a m = m
+never-again cap (offered x ∷ cs) b h a m = never-again cap cs (offer cap x b) h (offer-keeps cap x b (aired h) a) m
+never-again cap (handedOut ∷ cs) b h a m = go (due b) refl (λ b′ a′ m′. never-again cap cs b′ h a′ m′) m
+  where
+    go : (d : List (List ℕ)) → due b ≡ d → ((b′ : List (List ℕ)) → In (aired h) b′ → In h (given cap cs b′) → ⊥) → In h (handOutOf cap b d .given ++ given cap cs (handOutOf cap b d .board)) → ⊥
+    go [] e ih = ih b a
+    go (k ∷ ks) e ih = pick-both (λ (x : After). In h (x .given ++ given cap cs (x .board)) → ⊥) (leb (length (insert (aired k) b)) cap) (record { board = insert (aired k) b; given = k ∷ [] }) (record { board = b; given = [] })
+        (⊎-elim (λ p. in-due b k .0 (subst (λ (x : List (List ℕ)). In k x) (sym e) (inl refl)) .not-aired (subst (λ (x : List ℕ). In (aired x) b) p a)) (ih (insert (aired k) b) (in-insert (aired h) (aired k) b .1 (inr a))))
+        (ih b a)
+
+pub once : (cap : ℕ) (cs : List Call) (b : List (List ℕ)) → Once (given cap cs b)
+once cap [] b = tt
+once cap (offered a ∷ cs) b = once cap cs (offer cap a b)
+once cap (handedOut ∷ cs) b = go (due b) (λ b′. once cap cs b′)
+  where
+    go : (d : List (List ℕ)) → ((b′ : List (List ℕ)) → Once (given cap cs b′)) → Once (handOutOf cap b d .given ++ given cap cs (handOutOf cap b d .board))
+    go [] ih = ih b
+    go (k ∷ ks) ih = pick-both (λ (x : After). Once (x .given ++ given cap cs (x .board))) (leb (length (insert (aired k) b)) cap) (record { board = insert (aired k) b; given = k ∷ [] }) (record { board = b; given = [] })
+        (never-again cap cs (insert (aired k) b) k (in-insert (aired k) (aired k) b .1 (inl refl)), ih (insert (aired k) b))
+        (ih b)

@@ -1,0 +1,4 @@
+pub mod Sorts
+pub mod Dues
+pub mod Scans
+pub mod Demand3

@@ -1,0 +1,270 @@
+-- A message that answers 0: its values keep their rules, and so do its records.
+--     sound                       its sender, identifier and references
+--     shaped                      what it leaves has the lengths of a record's fields
+--     records-ok, records-few     its records keep theirs, and are 17 at most
+use Prim.Native.Nat.{ℕ, zero, suc, _+_, _≤_, _<_}
+use mathlib.Core.Path.{_≡_, refl, sym, ap, _∙_, subst}
+use mathlib.Core.Logic.{⊎-elim}
+use mathlib.Core.Bool.{Bool, true, false, _&&_, not}
+use mathlib.Core.List.{List, [], _∷_, map}
+use native.Mathlib.Omega.{arith}
+use borrow.Author.Tests.{eqb-true, not-false}
+use lib.Dec.{eqb, leb}
+use lib.ListN.{length, getD, length-append}
+use Rattle.octets.specs.Bytes.{pick, every, between, part}
+use Rattle.octets.proofs.Tests.{and-right, each-of, every-none, every-step, every-first, every-rest, every-append, between-high}
+use Rattle.clock.specs.Time.{span, timeOf}
+use Rattle.clock.specs.Stamp.{stamped}
+use Rattle.clock.specs.Written.{jjjhhmm}
+use Rattle.clock.specs.declared.Time.{Time}
+use Rattle.clock.specs.declared.Time.the-variants.{At}
+use Rattle.clock.proofs.Times.{accepted-inside}
+use Rattle.parts.specs.declared.Body.{Body}
+use Rattle.parts.proofs.Has.{has}
+use Rattle.header.specs.Body.{bodyBytes, timesPart, bodyForm}
+use Rattle.header.specs.declared.BodyRead.{BodyRead}
+use Rattle.header.proofs.Reading.{body-zero, body-long}
+use Rattle.header.proofs.WriteThenRead.{body-back, read-written-body}
+use Rattle.fields.specs.Fields.{identityOk}
+use Rattle.fields.specs.References.{senderOf, identifierOf, sentOf, groupOk, words, referencesOk}
+use Rattle.fields.proofs.Identities.{identity-short}
+use Rattle.fields.proofs.Groups.{groupTests}
+use Rattle.faults.specs.Field.{onward, lowest}
+use Rattle.markup.specs.Tree.{One, one, none}
+use Rattle.markup.specs.Document.{docAt}
+use Rattle.reads.specs.declared.Alert.{Alert}
+use Rattle.reads.specs.declared.Leaf.{Leaf}
+use Rattle.gather.specs.Read.{alertOf}
+use Rattle.message.specs.Root.{prefixOf, rootOk}
+use Rattle.message.specs.Judged.{leafAt, onlyOf, identified, timed, statusOf, msgTypeOf, scopeOf, referenced, asksReferences, faultsWith, fieldOf, numberWith, numberOf, instantIn}
+use Rattle.message.specs.Message.{judged, passed, ofRoot, messageOf}
+use Rattle.message.specs.declared.Message.{Message}
+use Rattle.leaves.proofs.Fits.{sent-in}
+use Rattle.judgement.specs.Judged.{bodyWith, judgedBy, judgedOf}
+use Rattle.judgement.specs.declared.Judged.{Judged}
+use Rattle.judgement.proofs.Bodies.{alerting, alert-body, body-ok, message-kept}
+use Rattle.records.specs.Record.{recordOk, notice, withdrawal}
+use Rattle.records.proofs.ZeroFill.{pad-long}
+use Rattle.records.proofs.Stamps.{stamp-read}
+use Rattle.records.proofs.Records.{key-of-long, notice-ok, withdrawal-ok}
+use Rattle.ledger.specs.Sorted.{In}
+use Rattle.ledger.specs.Board.{records, Shaped}
+use Rattle.offers.specs.Records.{valueIn, ownIn, headerIn, namedBy, alertBy, recordsOf}
+
+-- ---- its values
+
+-- whatever holds of what is judged with 0 holds of a message that answers 0
+module _ (s : List ℕ) (P : Message → Type 0) (holding : (a : Alert) → numberOf s a ≡ 0 → P (judged s a)) where
+  by : (b : Bool) (x y : Message) → (x .number ≡ 0 → P x) → (y .number ≡ 0 → P y) → pick b x y .number ≡ 0 → P (pick b x y)
+  by true x y f g = f
+  by false x y f g = g
+
+  from-root : (o : One) → ofRoot s o .number ≡ 0 → P (ofRoot s o)
+  unfolding ofRoot passed judged
+  from-root none e = absurd (omega arith)
+  from-root (one g kids end) e =
+      by (rootOk s (g .from + 1) (g .name)) _ _ (holding (alertOf s (prefixOf s (g .from + 1) (g .name)) kids)) (λ n. absurd (omega arith)) e
+
+  answering : messageOf s .number ≡ 0 → P (messageOf s)
+  unfolding messageOf
+  answering = by (between 1 32768 (length s)) _ _ (from-root (docAt s)) (λ e. absurd (omega arith))
+
+-- no field is at fault
+no-faults : (bs : List Bool) (i : ℕ) → lowest bs ≡ 0 → getD bs i false ≡ false
+no-faults [] i h = refl
+no-faults (true ∷ bs) i h = absurd (omega arith)
+no-faults (false ∷ bs) zero h = refl
+no-faults (false ∷ bs) (suc i) h = no-faults bs i (go (lowest bs) h)
+  where
+    go : (n : ℕ) → onward n ≡ 0 → n ≡ 0
+    go zero e = refl
+    go (suc n) e = absurd (omega arith)
+
+number-zero : (s : List ℕ) (field status scope kind : ℕ) (l : Leaf) → numberWith s field status scope kind l ≡ 0 → (field ≡ 0) × ((asksReferences kind && not (referenced s l)) ≡ false)
+unfolding numberWith
+number-zero s field status scope kind l = go (eqb field 0) refl (eqb status 1 && eqb scope 1) (leb kind 3) (asksReferences kind && not (referenced s l)) refl
+  where
+    go : (a : Bool) → eqb field 0 ≡ a → (b d e : Bool) → (asksReferences kind && not (referenced s l)) ≡ e → pick {A = ℕ} a (pick b (pick d (pick e 10 0) 9) 8) 7 ≡ 0 → (field ≡ 0) × ((asksReferences kind && not (referenced s l)) ≡ false)
+    go false a b d e f h = absurd (omega arith)
+    go true a false d e f h = absurd (omega arith)
+    go true a true false e f h = absurd (omega arith)
+    go true a true true true f h = absurd (omega arith)
+    go true a true true false f h = (eqb-true field 0 a, f)
+
+pub record Sound (s : List ℕ) (m : Message) : Type 0 where
+  pub identifier : identityOk (valueIn s m 0) ≡ true
+  pub sender : identityOk (valueIn s m 1) ≡ true
+  pub references : asksReferences (m .kind) ≡ true → referencesOk (valueIn s m 6) ≡ true
+
+judged-sound : (s : List ℕ) (a : Alert) → numberOf s a ≡ 0 → Sound s (judged s a)
+unfolding judged identified referenced
+judged-sound s a h =
+    let z = number-zero s (fieldOf s a) (statusOf s a) (scopeOf s a) (msgTypeOf s a) (leafAt 6 a) h in
+    let bs = faultsWith s a (timed s (leafAt 2 a)) (statusOf s a) (msgTypeOf s a) (scopeOf s a) in
+    record {
+      identifier = and-right (onlyOf (leafAt 0 a)) _ (not-false _ (no-faults bs 0 (z .0)));
+      sender = and-right (onlyOf (leafAt 1 a)) _ (not-false _ (no-faults bs 1 (z .0)));
+      references = λ e. and-right (onlyOf (leafAt 6 a)) _ (not-false _ (asked (asksReferences (msgTypeOf s a)) _ e (z .1)));
+    }
+  where
+    asked : (x y : Bool) → x ≡ true → (x && y) ≡ false → y ≡ false
+    asked x y e h = rw e at h
+
+-- ---- a message that is judged and answers 0
+
+module _ (s : List ℕ) (zero : judgedOf s .number ≡ 0) where
+  pub message-is : judgedOf s .message ≡ messageOf s
+  message-is = message-kept s (messageOf s)
+
+  message-zero : messageOf s .number ≡ 0
+  unfolding judgedBy
+  message-zero = go (eqb (messageOf s .number) 0) refl
+    where
+      go : (b : Bool) → eqb (messageOf s .number) 0 ≡ b → messageOf s .number ≡ 0
+      go true e = eqb-true (messageOf s .number) 0 e
+      go false e = rw e at zero
+
+  pub sound : Sound s (judgedOf s .message)
+  sound = rw message-is (answering s (Sound s) (judged-sound s) message-zero)
+
+  pub sent-low : judgedOf s .message .sent < span
+  sent-low = rw message-is (sent-in s)
+
+  pub own-long : length (ownIn s (judgedOf s .message)) ≡ 132
+  unfolding ownIn
+  own-long = key-of-long _ _ _ (identity-short _ (sound .sender)) (identity-short _ (sound .identifier))
+
+  module _ (loud : judgedOf s .quiet ≡ false) where
+    form : bodyForm (bodyBytes (judgedOf s .body)) ≡ true
+    form = body-zero (bodyBytes (judgedOf s .body)) (ap (λ (r : BodyRead). r .number) (read-written-body (judgedOf s .body) (body-ok s zero loud))) .0
+
+    stamp : part (timesPart (bodyBytes (judgedOf s .body))) 6 7 ≡ stamped (judgedOf s .message .sent)
+    unfolding bodyWith
+    stamp =
+        let e = alert-body s (messageOf s) (alerting s (messageOf s) zero loud) in
+        stamp-read (bodyBytes (judgedOf s .body)) form
+        ∙ ap (λ (x : Body). jjjhhmm (x .day) (x .hour) (x .minute)) (body-back (judgedOf s .body) (body-ok s zero loud) ∙ e)
+        ∙ ap (λ (m : Message). stamped (m .sent)) (sym message-is)
+
+    notice-good : recordOk (notice (ownIn s (judgedOf s .message)) (headerIn (judgedOf s))) ≡ true
+    unfolding ownIn headerIn
+    notice-good = notice-ok _ _ _ sent-low (sound .sender) (sound .identifier) (bodyBytes (judgedOf s .body)) form stamp
+
+    pub header-long : length (headerIn (judgedOf s)) ≡ 243
+    unfolding headerIn
+    header-long = pad-long 243 (bodyBytes (judgedOf s .body)) (body-long _ form .1)
+
+-- ---- its records
+
+time-low : (t : List ℕ) → instantIn (timeOf t) < span
+time-low t = go (timeOf t) refl
+  where
+    go : (x : Time) → timeOf t ≡ x → instantIn x < span
+    go (At n) e = accepted-inside t n e
+    go Time.Bad e = omega arith
+
+pub named-good : (w : List ℕ) → groupOk w ≡ true → recordOk (withdrawal (namedBy w)) ≡ true
+unfolding groupOk namedBy
+named-good w h = let t = each-of (groupTests w) h in withdrawal-ok (instantIn (timeOf (sentOf w))) (senderOf w) (identifierOf w) (time-low (sentOf w)) (t .0) (t .1 .0)
+
+withdrawals-good : (ws : List (List ℕ)) → every groupOk ws ≡ true → every recordOk (map withdrawal (map namedBy ws)) ≡ true
+withdrawals-good [] h = every-none recordOk
+withdrawals-good (w ∷ ws) h = every-step recordOk _ _ (named-good w (every-first groupOk w ws h)) ∙ withdrawals-good ws (every-rest groupOk w ws h)
+
+pub map-long : {A B : Type 0} (f : A → B) (l : List A) → length (map f l) ≡ length l
+map-long f [] = refl
+map-long f (x ∷ l) = ap suc (map-long f l)
+
+pub references-are : (v : List ℕ) → referencesOk v ≡ true → (length (words v) ≤ 16) × (every groupOk (words v) ≡ true)
+unfolding referencesOk
+references-are v h = let t = each-of _ h in (between-high 1 16 (length (words v)) (t .0), t .1 .0)
+
+module _ (s : List ℕ) (zero : judgedOf s .number ≡ 0) where
+  notices-good : (q : Bool) → judgedOf s .quiet ≡ q → every recordOk (map (notice (ownIn s (judgedOf s .message))) (pick q [] (headerIn (judgedOf s) ∷ []))) ≡ true
+  notices-good true e = every-none recordOk
+  notices-good false e = every-step recordOk _ [] (notice-good s zero e) ∙ every-none recordOk
+
+  names-good : (q : Bool) → asksReferences (judgedOf s .message .kind) ≡ q → every recordOk (map withdrawal (pick q (map namedBy (words (valueIn s (judgedOf s .message) 6))) [])) ≡ true
+  names-good true e = withdrawals-good (words (valueIn s (judgedOf s .message) 6)) (references-are _ (sound s zero .references e) .1)
+  names-good false e = every-none recordOk
+
+  alert-good : every recordOk (records (alertBy s (judgedOf s))) ≡ true
+  unfolding alertBy
+  alert-good = every-append recordOk _ _ (notices-good (judgedOf s .quiet) refl) (names-good (asksReferences (judgedOf s .message .kind)) refl)
+
+  carries-few : length (alertBy s (judgedOf s) .carries) ≤ 1
+  unfolding alertBy
+  carries-few = go (judgedOf s .quiet)
+    where
+      go : (q : Bool) → length (pick q [] (headerIn (judgedOf s) ∷ [])) ≤ 1
+      go true = omega arith
+      go false = omega arith
+
+  names-few : length (alertBy s (judgedOf s) .names) ≤ 16
+  unfolding alertBy
+  names-few = go (asksReferences (judgedOf s .message .kind)) refl
+    where
+      ws : List (List ℕ)
+      ws = words (valueIn s (judgedOf s .message) 6)
+
+      go : (q : Bool) → asksReferences (judgedOf s .message .kind) ≡ q → length (pick q (map namedBy ws) []) ≤ 16
+      go true e = let l = map-long namedBy ws in let k = references-are _ (sound s zero .references e) .0 in omega arith
+      go false e = omega arith
+
+  alert-few : length (records (alertBy s (judgedOf s))) ≤ 17
+  alert-few =
+      let a = alertBy s (judgedOf s) in
+      omega (arith, length-append (map (notice (a .own)) (a .carries)) (map withdrawal (a .names)), map-long (notice (a .own)) (a .carries), map-long withdrawal (a .names), carries-few, names-few)
+
+  pub shaped : Shaped (alertBy s (judgedOf s))
+  unfolding alertBy
+  shaped = record { own-long = own-long s zero; carried-long = go (judgedOf s .quiet) refl }
+    where
+      go : (q : Bool) → judgedOf s .quiet ≡ q → (h : List ℕ) → In h (pick q [] (headerIn (judgedOf s) ∷ [])) → length h ≡ 243
+      go true e h i = absurd i
+      go false e h i = ⊎-elim (λ p. ap length p ∙ header-long s zero e) absurd i
+
+pub records-ok : (s : List ℕ) → every recordOk (recordsOf s) ≡ true
+unfolding recordsOf
+records-ok s = go (eqb (judgedOf s .number) 0) refl
+  where
+    go : (b : Bool) → eqb (judgedOf s .number) 0 ≡ b → every recordOk (pick b (records (alertBy s (judgedOf s))) []) ≡ true
+    go true e = alert-good s (eqb-true (judgedOf s .number) 0 e)
+    go false e = every-none recordOk
+
+pub records-few : (s : List ℕ) → length (recordsOf s) ≤ 17
+unfolding recordsOf
+records-few s = go (eqb (judgedOf s .number) 0) refl
+  where
+    go : (b : Bool) → eqb (judgedOf s .number) 0 ≡ b → length (pick b (records (alertBy s (judgedOf s))) []) ≤ 17
+    go true e = alert-few s (eqb-true (judgedOf s .number) 0 e)
+    go false e = omega arith
+
+-- ---- the same of a judgement
+
+pub record Ready (s : List ℕ) (j : Judged) : Type 0 where
+  pub sender : length (valueIn s (j .message) 1) ≤ 64
+  pub identifier : length (valueIn s (j .message) 0) ≤ 64
+  pub references : asksReferences (j .message .kind) ≡ true → referencesOk (valueIn s (j .message) 6) ≡ true
+  pub places : j .quiet ≡ false → j .body .count ≤ 31
+  pub header : j .quiet ≡ false → length (bodyBytes (j .body)) ≤ 243
+  pub notice : j .quiet ≡ false → recordOk (notice (ownIn s (j .message)) (headerIn j)) ≡ true
+  pub one : length (alertBy s j .carries) ≤ 1
+  pub few : length (records (alertBy s j)) ≤ 17
+
+pub ready : (s : List ℕ) (j : Judged) → j ≡ judgedOf s → j .number ≡ 0 → Ready s j
+ready s j e z = subst (Ready s) (sym e) (of-judged (sym (ap (λ (x : Judged). x .number) e) ∙ z))
+  where
+    of-judged : judgedOf s .number ≡ 0 → Ready s (judgedOf s)
+    of-judged n =
+        let v = sound s n in
+        record {
+          sender = identity-short _ (v .sender);
+          identifier = identity-short _ (v .identifier);
+          references = v .references;
+          places = λ q. has (judgedOf s .body) (body-ok s n q) .few;
+          header = λ q. body-long _ (form s n q) .1;
+          notice = λ q. notice-good s n q;
+          one = carries-few s n;
+          few = alert-few s n;
+        }

@@ -1,0 +1,43 @@
+-- The records that an offer of a message adds: the notice (unless quiet) and one withdrawal per reference of an Update or Cancel.
+use Prim.Native.Nat.{ℕ}
+use mathlib.Core.List.{List, [], _∷_, map}
+use lib.Dec.{eqb}
+use Rattle.octets.specs.Bytes.{pick}
+use Rattle.clock.specs.Time.{timeOf}
+use Rattle.header.specs.Body.{bodyBytes}
+use Rattle.values.specs.Value.{valueAt}
+use Rattle.fields.specs.References.{senderOf, identifierOf, sentOf, words}
+use Rattle.message.specs.Judged.{leafAt, asksReferences, instantIn}
+use Rattle.message.specs.declared.Message.{Message}
+use Rattle.judgement.specs.Judged.{judgedOf}
+use Rattle.judgement.specs.declared.Judged.{Judged}
+use Rattle.records.specs.Record.{pad, keyOf}
+use Rattle.ledger.specs.Board.{Alert, records}
+
+-- the value of a leaf: 0 identifier, 1 sender, 6 references
+abbrev pub valueIn : List ℕ → Message → ℕ → List ℕ
+valueIn s m k = valueAt s (leafAt k (m .alert) .at)
+
+-- its own sent, sender and identifier
+unfoldable pub ownIn : List ℕ → Message → List ℕ
+ownIn s m = keyOf (m .sent) (valueIn s m 1) (valueIn s m 0)
+
+-- the header through the dash after JJJHHMM, zero-filled
+unfoldable pub headerIn : Judged → List ℕ
+headerIn j = pad 243 (bodyBytes (j .body))
+
+-- the sent, sender and identifier of a group `sender,identifier,sent`
+unfoldable pub namedBy : List ℕ → List ℕ
+namedBy w = keyOf (instantIn (timeOf (sentOf w))) (senderOf w) (identifierOf w)
+
+-- what a message leaves that is taken
+unfoldable pub alertBy : List ℕ → Judged → Alert
+alertBy s j = record {
+  own = ownIn s (j .message);
+  carries = pick (j .quiet) [] (headerIn j ∷ []);
+  names = pick (asksReferences (j .message .kind)) (map namedBy (words (valueIn s (j .message) 6))) [];
+}
+
+-- the records of a message; none where it is refused
+unfoldable pub recordsOf : List ℕ → List (List ℕ)
+recordsOf s = pick (eqb (judgedOf s .number) 0) (records (alertBy s (judgedOf s))) []

@@ -1,0 +1,5 @@
+pub mod ZeroFill
+pub mod Stamps
+pub mod Records
+pub mod Making
+pub mod Judging

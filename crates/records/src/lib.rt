@@ -1,0 +1,281 @@
+// One record of the board: its makers, and the rules that it keeps.
+use parts::Body;
+ghost use mathlib.Core.Path.{_≡_};
+ghost use mathlib.Core.List.{[], _∷_, _++_};
+ghost use Prim.Native.Nat.{_≤_, _<_};
+ghost use lib.ListN.{length, replicate};
+ghost use lib.Dec.{eqb};
+ghost use Rattle.octets.specs.Bytes.{every, holds, same};
+ghost use Rattle.clock.specs.Time.{span};
+ghost use Rattle.clock.specs.Stamp.{stampOf, stamped};
+ghost use Rattle.fields.specs.Fields.{identityOk};
+ghost use Rattle.records.specs.Record.{sentIn, zeros, filledIn, zeroFilled, keyOk, headerOk, stampIn, noticeTests, withdrawalTests, airedTests, recordOk, pad, be4, keyOf, notice, withdrawal, aired};
+
+pub struct Record {
+    pub bytes: [u8; Record::SIZE],
+}
+
+impl Record {
+    pub const SIZE: usize = 384;
+
+    // Where each field begins.
+    pub const KIND: usize = 0;
+
+    pub const SENT: usize = 1;
+
+    pub const SENDER: usize = 5;
+
+    pub const IDENTIFIER: usize = 69;
+
+    pub const HEADER: usize = 133;
+
+    pub const ZEROS: usize = 376;
+
+    // Kinds.
+    pub const NOTICE: u8 = 1;
+
+    pub const WITHDRAWAL: u8 = 2;
+
+    pub const AIRED: u8 = 3;
+
+    // A notice uses all.
+    pub fn notice(sent: u32, sender: &[u8], identifier: &[u8], header: &[u8]) -> Record
+        requires { ⌜ (length (now sender) ≤ 64) × (length (now identifier) ≤ 64) × (length (now header) ≤ 243) ⌝ }
+        ensures { λ r. ⌜ r .bytes ≡ notice (keyOf sent (now (sender .entry)) (now (identifier .entry))) (pad 243 (now (header .entry))) ⌝ }
+    {
+        let mut b = keyed(Record::NOTICE, sent, sender, identifier);
+        octets::put_bytes(&mut b, Record::HEADER, header);
+        Record { bytes: b }
+    }
+
+    // A withdrawal names a message and has no header.
+    pub fn withdrawal(sent: u32, sender: &[u8], identifier: &[u8]) -> Record
+        requires { ⌜ (length (now sender) ≤ 64) × (length (now identifier) ≤ 64) ⌝ }
+        ensures { λ r. ⌜ r .bytes ≡ withdrawal (keyOf sent (now (sender .entry)) (now (identifier .entry))) ⌝ }
+    {
+        let b = keyed(Record::WITHDRAWAL, sent, sender, identifier);
+        Record { bytes: b }
+    }
+
+    // An aired record has only a header.
+    pub fn aired(header: &[u8]) -> Record
+        requires { ⌜ length (now header) ≤ 243 ⌝ }
+        ensures { λ r. ⌜ r .bytes ≡ aired (pad 243 (now (header .entry))) ⌝ }
+    {
+        let mut b = [0u8; Record::SIZE];
+        b[Record::KIND] = Record::AIRED;
+        octets::put_bytes(&mut b, Record::HEADER, header);
+        Record { bytes: b }
+    }
+}
+
+// The withdrawal of a key as it stands in a record.
+pub fn withdrawal_of(key: &[u8]) -> Record
+    requires { ⌜ length (now key) ≡ 132 ⌝ }
+    ensures { λ r. ⌜ r .bytes ≡ withdrawal (now (key .entry)) ⌝ }
+{
+    let mut b = [0u8; Record::SIZE];
+    b[Record::KIND] = Record::WITHDRAWAL;
+    octets::put_bytes(&mut b, Record::SENT, key);
+    Record { bytes: b }
+}
+
+// The four bytes of a time, highest first.
+fn big_endian(sent: u32) -> [u8; 4]
+    ensures { λ r. ⌜ r ≡ be4 sent ⌝ }
+{
+    [
+        (sent / 256 / 256 / 256 % 256) as u8,
+        (sent / 256 / 256 % 256) as u8,
+        (sent / 256 % 256) as u8,
+        (sent % 256) as u8,
+    ]
+}
+
+// A record of this kind with a key, and zeros behind it.
+fn keyed(kind: u8, sent: u32, sender: &[u8], identifier: &[u8]) -> [u8; Record::SIZE]
+    requires { ⌜ (length (now sender) ≤ 64) × (length (now identifier) ≤ 64) ⌝ }
+    ensures { λ r. ⌜ r ≡ (kind ∷ keyOf sent (now (sender .entry)) (now (identifier .entry))) ++ replicate 251 0 ⌝ }
+{
+    let t = big_endian(sent);
+    let mut b = [0u8; Record::SIZE];
+    b[Record::KIND] = kind;
+    octets::put_bytes(&mut b, Record::SENT, &t);
+    octets::put_bytes(&mut b, Record::SENDER, sender);
+    octets::put_bytes(&mut b, Record::IDENTIFIER, identifier);
+    b
+}
+
+// ---- the rules
+
+// The seconds of 2000 to 2099.
+const SPAN: u32 = 3155760000;
+
+pub fn are_zeros(f: &[u8]) -> bool
+    ensures { λ r. ⌜ r ≡ zeros (now (f .entry)) ⌝ }
+{
+    let mut i: usize = 0;
+    while i < f.len() {
+        if f[i] != 0 {
+            return false;
+        }
+        i += 1;
+    }
+    true
+}
+
+// How many bytes stand before the first zero byte.
+fn filled(f: &[u8]) -> usize
+    ensures { λ r. ⌜ r ≡ length (filledIn (now (f .entry))) ⌝ }
+{
+    let mut i: usize = 0;
+    while i < f.len() {
+        if f[i] == 0 {
+            return i;
+        }
+        i += 1;
+    }
+    i
+}
+
+// Whether a field is a sender or an identifier, zero-filled.
+fn is_name(f: &[u8]) -> bool
+    ensures { λ r. ⌜ r ≡ zeroFilled identityOk (now (f .entry)) ⌝ }
+{
+    let n = filled(f);
+    if !fields::is_identity(&f[0..n]) {
+        return false;
+    }
+    are_zeros(&f[n..])
+}
+
+fn wide(b: u8) -> u32
+    ensures { λ r. ⌜ (r ≡ b) × (r ≤ 255) ⌝ }
+{
+    b as u32
+}
+
+fn sent_of(k: &[u8]) -> u32
+    requires { ⌜ 4 ≤ length (now k) ⌝ }
+    ensures { λ r. ⌜ r ≡ sentIn (now (k .entry)) ⌝ }
+{
+    ((wide(k[0]) * 256 + wide(k[1])) * 256 + wide(k[2])) * 256 + wide(k[3])
+}
+
+// Whether k is a sent, a sender and an identifier.
+fn is_key(k: &[u8]) -> bool
+    requires { ⌜ length (now k) ≡ 132 ⌝ }
+    ensures { λ r. ⌜ r ≡ keyOk (now (k .entry)) ⌝ }
+{
+    if SPAN <= sent_of(k) {
+        return false;
+    }
+    if !is_name(&k[Record::SENDER - Record::SENT..Record::IDENTIFIER - Record::SENT]) {
+        return false;
+    }
+    is_name(&k[Record::IDENTIFIER - Record::SENT..Record::HEADER - Record::SENT])
+}
+
+// Whether h is a header, zero-filled.
+fn is_header(h: &[u8]) -> bool
+    ensures { λ r. ⌜ r ≡ headerOk (now (h .entry)) ⌝ }
+{
+    let n = filled(h);
+    let read = header::read_body(&h[0..n]);
+    if read.number != 0 {
+        return false;
+    }
+    are_zeros(&h[n..])
+}
+
+// Whether the day, hour and minute of a header are those of sent.
+fn is_on(b: Body, sent: u32) -> bool
+    requires { ⌜ sent < span ⌝ }
+    ensures { λ r. ⌜ r ≡ every holds (eqb (b .day) (stampOf sent .day) ∷ eqb (b .hour) (stampOf sent .hour) ∷ eqb (b .minute) (stampOf sent .minute) ∷ []) ⌝ }
+{
+    let on = clock::stamp_of(sent);
+    if b.day != on.day {
+        return false;
+    }
+    if b.hour != on.hour {
+        return false;
+    }
+    b.minute == on.minute
+}
+
+// Whether h is a header, zero-filled, whose JJJHHMM is that of sent.
+fn is_header_of(h: &[u8], sent: u32) -> bool
+    requires { ⌜ sent < span ⌝ }
+    ensures { λ r. ⌜ r ≡ every holds (headerOk (now (h .entry)) ∷ same (stampIn (now (h .entry))) (stamped sent) ∷ []) ⌝ }
+{
+    let n = filled(h);
+    let read = header::read_body(&h[0..n]);
+    if read.number != 0 {
+        return false;
+    }
+    let body = read.body;
+    if !is_on(body, sent) {
+        return false;
+    }
+    are_zeros(&h[n..])
+}
+
+fn is_notice(r: &[u8]) -> bool
+    requires { ⌜ length (now r) ≡ 384 ⌝ }
+    ensures { λ x. ⌜ x ≡ every holds (noticeTests (now (r .entry))) ⌝ }
+{
+    let k = &r[Record::SENT..Record::HEADER];
+    if !is_key(k) {
+        return false;
+    }
+    if !is_header_of(&r[Record::HEADER..Record::ZEROS], sent_of(k)) {
+        return false;
+    }
+    are_zeros(&r[Record::ZEROS..Record::SIZE])
+}
+
+fn is_withdrawal(r: &[u8]) -> bool
+    requires { ⌜ length (now r) ≡ 384 ⌝ }
+    ensures { λ x. ⌜ x ≡ every holds (withdrawalTests (now (r .entry))) ⌝ }
+{
+    if !is_key(&r[Record::SENT..Record::HEADER]) {
+        return false;
+    }
+    if !are_zeros(&r[Record::HEADER..Record::ZEROS]) {
+        return false;
+    }
+    are_zeros(&r[Record::ZEROS..Record::SIZE])
+}
+
+fn is_aired(r: &[u8]) -> bool
+    requires { ⌜ length (now r) ≡ 384 ⌝ }
+    ensures { λ x. ⌜ x ≡ every holds (airedTests (now (r .entry))) ⌝ }
+{
+    if !are_zeros(&r[Record::SENT..Record::HEADER]) {
+        return false;
+    }
+    if !is_header(&r[Record::HEADER..Record::ZEROS]) {
+        return false;
+    }
+    are_zeros(&r[Record::ZEROS..Record::SIZE])
+}
+
+// Whether r is a record.
+pub fn is_record(r: &[u8]) -> bool
+    ensures { λ x. ⌜ x ≡ recordOk (now (r .entry)) ⌝ }
+{
+    if r.len() != Record::SIZE {
+        return false;
+    }
+    let kind = r[Record::KIND];
+    if kind == Record::NOTICE {
+        return is_notice(r);
+    }
+    if kind == Record::WITHDRAWAL {
+        return is_withdrawal(r);
+    }
+    if kind == Record::AIRED {
+        return is_aired(r);
+    }
+    false
+}
