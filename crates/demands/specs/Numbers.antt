@@ -1,12 +1,14 @@
 -- "Numbers returned": each number with the condition under which it applies. s is the message.
-use Prim.Native.Nat.{ℕ, _+_}
+use Prim.Native.Nat.{ℕ, _+_, _*_, _/_}
 use mathlib.Core.Bool.{Bool, true, false, _&&_, not}
 use mathlib.Core.List.{List, [], _∷_, _++_}
 use lib.ListN.{length}
 use lib.Dec.{eqb, leb}
 use Rattle.octets.specs.Bytes.{pick, every, between}
 use Rattle.parts.specs.Originator.{isKnown}
-use Rattle.parts.specs.Parts.{stationOk}
+use Rattle.parts.specs.Parts.{bodyOk, stationOk}
+use Rattle.parts.specs.declared.Parts.{Parts}
+use Rattle.header.specs.Header.{headerForm}
 use Rattle.markup.specs.Tree.{One, one, none}
 use Rattle.markup.specs.Document.{docAt}
 use Rattle.reads.specs.Leaves.{fresh}
@@ -19,6 +21,11 @@ use Rattle.message.specs.declared.Message.{Message}
 use Rattle.judgement.specs.Rules.{infoIn, eventIs, originOf, located, quietOf}
 use Rattle.judgement.specs.Judged.{lasting}
 use Rattle.convert.specs.Convert.{roomy}
+use Rattle.records.specs.Record.{aired}
+use Rattle.ledger.specs.Sorted.{insert, insertAll}
+use Rattle.ledger.specs.Board.{due, rowsOf}
+use Rattle.board.specs.Rules.{boardOf, boardOk}
+use Rattle.offers.specs.Records.{recordsOf}
 
 pub record Row : Type 0 where
   pub number : ℕ
@@ -89,3 +96,54 @@ conversionRows s station header text uri =
     record { number = 2; applies = not (roomy header text uri) }
     ∷ record { number = 3; applies = not (stationOk station) }
     ∷ (messageRows s ++ headerRows s (said s))
+
+-- ---- an offer to a board b asks 1 and 4 to 15
+
+-- 1 board length or content breaks the rules; 15 fewer empty records than must be added
+abbrev pub offerRows : List ℕ → List ℕ → List Row
+offerRows b s =
+    record { number = 1; applies = not (boardOk b) }
+    ∷ ((messageRows s ++ headerRows s (said s))
+    ++ (record { number = 15; applies = not (leb (length (insertAll (recordsOf s) (boardOf b)) * 384) (length b)) } ∷ []))
+
+-- ---- a hand-out of a board b asks 1, 16, 15 in that order
+
+abbrev pub isNone : List (List ℕ) → Bool
+isNone [] = true
+isNone (h ∷ hs) = false
+
+-- no empty record for the aired one of the first due header
+abbrev pub unaired : List ℕ → List (List ℕ) → Bool
+unaired b [] = false
+unaired b (h ∷ hs) = not (leb (length (insert (aired h) (boardOf b)) * 384) (length b))
+
+-- 16 nothing due
+abbrev pub handOutRows : List ℕ → List Row
+handOutRows b =
+    record { number = 1; applies = not (boardOk b) }
+    ∷ record { number = 16; applies = isNone (due (boardOf b)) }
+    ∷ record { number = 15; applies = unaired b (due (boardOf b)) }
+    ∷ []
+
+-- ---- the list of a board b, with m numbers lent, two to a row, asks 1, 2
+
+-- 2 rows below the due count
+abbrev pub listRows : List ℕ → ℕ → List Row
+listRows b m =
+    record { number = 1; applies = not (boardOk b) }
+    ∷ record { number = 2; applies = not (leb (length (rowsOf (boardOf b))) (m / 2)) }
+    ∷ []
+
+-- ---- a header
+
+-- reading one asks 17: header unreadable
+abbrev pub readRows : List ℕ → List Row
+readRows s = record { number = 17; applies = not (headerForm s) } ∷ []
+
+-- writing one into an output of so many bytes asks 2, 3, 17: parts that no header has
+abbrev pub writeRows : ℕ → Parts → List Row
+writeRows room p =
+    record { number = 2; applies = not (leb 252 room) }
+    ∷ record { number = 3; applies = not (stationOk (p .station)) }
+    ∷ record { number = 17; applies = not (bodyOk (p .body)) }
+    ∷ []

@@ -244,3 +244,17 @@ mark-plain b h =
 
 pub mark-step : (s : List ℕ) (i : ℕ) → isMark (byteAt s i) ≡ true → stepAt s i ≡ Is (byteAt s i) (i + 1)
 mark-step s i h = step-is s i (byteAt s i) (i + 1) (plain-next s i (mark-plain (byteAt s i) h)) (mark-shows (byteAt s i) h)
+
+-- a space before a mark
+space-plain : isPlain 32 ≡ true
+unfolding isPlain mayStand isSpace oneOf
+space-plain = refl
+
+space-is : isSpace 32 ≡ true
+unfolding isSpace oneOf
+space-is = refl
+
+pub space-step : (s : List ℕ) (i : ℕ) → byteAt s i ≡ 32 → isMark (byteAt s (i + 1)) ≡ true → stepAt s i ≡ Is 32 (i + 1)
+space-step s i e h =
+    step-gap s i (byteAt s i) (i + 1) (plain-next s i (ap isPlain e ∙ space-plain)) (ap isSpace e ∙ space-is)
+    ∙ gap-here s (i + 1) (byteAt s (i + 1)) (i + 1 + 1) (plain-next s (i + 1) (mark-plain (byteAt s (i + 1)) h)) (mark-shows (byteAt s (i + 1)) h)

@@ -7,7 +7,7 @@ ghost use mathlib.Core.List.{[], map};
 ghost use Prim.Native.Nat.{_+_, _≤_};
 ghost use lib.ListN.{length, take};
 ghost use lib.Seq.{sets};
-ghost use Rattle.octets.specs.Bytes.{same};
+ghost use Rattle.octets.specs.Bytes.{byteAt, same};
 ghost use Rattle.values.specs.Chars.{nextAt};
 ghost use Rattle.values.specs.Value.{valueAt, leadAt, gapAt, stepAt, small, form, sixDigits, isMark};
 
@@ -105,13 +105,28 @@ fn is_mark(b: u8) -> bool
     octets::is_visible(b)
 }
 
-// The next character of the value from a place in it: a mark at once, anything else by `slow`.
+// The next character of the value from a space: at once where a mark follows.
+fn from_space(s: &[u8], at: usize) -> Got
+    requires { ⌜ byteAt (now s) at ≡ 32 ⌝ }
+    ensures { λ r. ⌜ r ≡ stepAt (now (s .entry)) at ⌝ }
+{
+    let next = at + 1;
+    if is_mark(octets::byte(s, next)) {
+        return Got::Is(32, next);
+    }
+    slow(s, at)
+}
+
+// The next character of the value from a place in it: a mark, and a space before one, at once, anything else by `slow`.
 pub fn step(s: &[u8], at: usize) -> Got
     ensures { λ r. ⌜ r ≡ stepAt (now (s .entry)) at ⌝ }
 {
     let b = octets::byte(s, at);
     if is_mark(b) {
         return Got::Is(b, at + 1);
+    }
+    if b == 32 {
+        return from_space(s, at);
     }
     slow(s, at)
 }

@@ -1,0 +1,137 @@
+-- Each promise determines its result: any two results that a function's contract allows for the same arguments are equal, and so is every lent byte and
+-- row at exit. The contract is the function's own, as the toolchain reads it: Learnt says what a caller learns of lifetimes κs, arguments a, a result r
+-- and the arguments at exit x.
+use Prim.Native.Nat.{ℕ, zero, suc}
+use mathlib.Core.Path.{_≡_, sym, _∙_}
+use mathlib.Core.List.{List}
+use denote.Ref.{RefT, now}
+use Rattle.clock.specs.declared.Time.{Time}
+use Rattle.clock.proofs.instant.Reads as instant
+use Rattle.clock.proofs.instant_at.Reads as instant-at
+use Rattle.clock.proofs.period.Reads as period
+use Rattle.parts.specs.declared.Parts.{Parts}
+use Rattle.header.specs.declared.Read.{Read}
+use Rattle.header.specs.declared.BodyRead.{BodyRead}
+use Rattle.header.specs.declared.Written.{Written}
+use Rattle.header.proofs.read_header.Reads as read-header
+use Rattle.header.proofs.read_body.Reads as read-body
+use Rattle.header.proofs.write_header.Reads as write-header
+use Rattle.header.proofs.write_asked.Reads as write-asked
+use Rattle.message.specs.declared.Message.{Message}
+use Rattle.message.proofs.read.Reads as read
+use Rattle.judgement.specs.declared.Judged.{Judged}
+use Rattle.judgement.proofs.judge.Reads as judge
+use Rattle.convert.specs.declared.Converted.{Converted}
+use Rattle.convert.proofs.convert.Reads as convert
+use Rattle.board.specs.declared.Handed.{Handed}
+use Rattle.board.specs.declared.Listed.{Listed}
+use Rattle.board.proofs.hand_out.Reads as hand-out
+use Rattle.board.proofs.list.Reads as list
+use Rattle.offers.specs.declared.Offered.{Offered}
+use Rattle.offers.proofs.offer.Reads as offer
+use Rattle.report.proofs.program.Reads as program
+use Rattle.host.proofs.stuiverhaag_convert.Reads as host-convert
+use Rattle.host.proofs.stuiverhaag_read_header.Reads as host-read
+use Rattle.host.proofs.stuiverhaag_write_header.Reads as host-write
+use Rattle.host.proofs.stuiverhaag_offer.Reads as host-offer
+use Rattle.host.proofs.stuiverhaag_hand_out.Reads as host-hand-out
+
+-- ---- arguments
+
+-- n lifetimes
+abbrev Lifetimes : ℕ → Type 0
+Lifetimes zero = Unit {0}
+Lifetimes (suc n) = List ℕ × Lifetimes n
+
+-- a slice that is lent
+abbrev Lent : Type 0
+Lent = RefT (List ℕ)
+
+-- what equals the same is equal
+one : {A : Type 0} {x y z : A} → x ≡ z → y ≡ z → x ≡ y
+one p q = p ∙ sym q
+
+-- ---- times and headers
+
+pub instant-determined : (κs : Lifetimes 1) (a x x′ : Lent × Unit {0}) (r r′ : Time) → instant.Learnt κs a r x → instant.Learnt κs a r′ x′ → r ≡ r′
+instant-determined κs a x x′ r r′ p q = one p q
+
+pub instant-at-determined : (κs : Lifetimes 1) (a x x′ : Lent × (ℕ × (ℕ × Unit {0}))) (r r′ : Time) → instant-at.Learnt κs a r x → instant-at.Learnt κs a r′ x′ → r ≡ r′
+instant-at-determined κs a x x′ r r′ p q = one p q
+
+pub period-determined : (κs : Lifetimes 0) (a x x′ : ℕ × Unit {0}) (r r′ : ℕ) → period.Learnt κs a r x → period.Learnt κs a r′ x′ → r ≡ r′
+period-determined κs a x x′ r r′ p q = one p q
+
+pub read-header-determined : (κs : Lifetimes 1) (a x x′ : Lent × Unit {0}) (r r′ : Read) → read-header.Learnt κs a r x → read-header.Learnt κs a r′ x′ → r ≡ r′
+read-header-determined κs a x x′ r r′ p q = one p q
+
+pub read-body-determined : (κs : Lifetimes 1) (a x x′ : Lent × Unit {0}) (r r′ : BodyRead) → read-body.Learnt κs a r x → read-body.Learnt κs a r′ x′ → r ≡ r′
+read-body-determined κs a x x′ r r′ p q = one p q
+
+pub write-header-determined : (κs : Lifetimes 1) (a x x′ : Lent × (Parts × Unit {0})) (r r′ : Written) →
+    write-header.Learnt κs a r x → write-header.Learnt κs a r′ x′ → (r ≡ r′) × (now (x .0) ≡ now (x′ .0))
+write-header-determined κs a x x′ r r′ p q = (one (p .0) (q .0), one (p .1) (q .1))
+
+-- originator, event, locations, period, day, hour, minute, station and output, as a caller names them
+abbrev Asked : Type 0
+Asked = ℕ × (Lent × (Lent × (ℕ × (ℕ × (ℕ × (ℕ × (Lent × (Lent × Unit {0}))))))))
+
+pub write-asked-determined : (κs : Lifetimes 4) (a x x′ : Asked) (r r′ : Written) →
+    write-asked.Learnt κs a r x → write-asked.Learnt κs a r′ x′ → (r ≡ r′) × (now (x .1 .1 .1 .1 .1 .1 .1 .1 .0) ≡ now (x′ .1 .1 .1 .1 .1 .1 .1 .1 .0))
+write-asked-determined κs a x x′ r r′ p q = (one (p .0) (q .0), one (p .1) (q .1))
+
+-- ---- messages
+
+pub read-determined : (κs : Lifetimes 1) (a x x′ : Lent × Unit {0}) (r r′ : Message) → read.Learnt κs a r x → read.Learnt κs a r′ x′ → r ≡ r′
+read-determined κs a x x′ r r′ p q = one p q
+
+pub judge-determined : (κs : Lifetimes 1) (a x x′ : Lent × Unit {0}) (r r′ : Judged) → judge.Learnt κs a r x → judge.Learnt κs a r′ x′ → r ≡ r′
+judge-determined κs a x x′ r r′ p q = one p q
+
+-- header, text and uri are the third, fourth and fifth argument
+pub convert-determined : (κs : Lifetimes 5) (a x x′ : Lent × (Lent × (Lent × (Lent × (Lent × Unit {0}))))) (r r′ : Converted) →
+    convert.Learnt κs a r x → convert.Learnt κs a r′ x′ →
+    (r ≡ r′) × ((now (x .1 .1 .0) ≡ now (x′ .1 .1 .0)) × ((now (x .1 .1 .1 .0) ≡ now (x′ .1 .1 .1 .0)) × (now (x .1 .1 .1 .1 .0) ≡ now (x′ .1 .1 .1 .1 .0))))
+convert-determined κs a x x′ r r′ p q = (one (p .0) (q .0), (one (p .1 .0) (q .1 .0), (one (p .1 .1 .0) (q .1 .1 .0), one (p .1 .1 .1) (q .1 .1 .1))))
+
+-- ---- boards
+
+pub offer-determined : (κs : Lifetimes 2) (a x x′ : Lent × (Lent × Unit {0})) (r r′ : Offered) →
+    offer.Learnt κs a r x → offer.Learnt κs a r′ x′ → (r ≡ r′) × (now (x .0) ≡ now (x′ .0))
+offer-determined κs a x x′ r r′ p q = (one (p .0) (q .0), one (p .1 .0) (q .1 .0))
+
+pub hand-out-determined : (κs : Lifetimes 1) (a x x′ : Lent × Unit {0}) (r r′ : Handed) →
+    hand-out.Learnt κs a r x → hand-out.Learnt κs a r′ x′ → (r ≡ r′) × (now (x .0) ≡ now (x′ .0))
+hand-out-determined κs a x x′ r r′ p q = (one (p .0) (q .0), one (p .1 .0) (q .1 .0))
+
+pub list-determined : (κs : Lifetimes 2) (a x x′ : Lent × (Lent × Unit {0})) (r r′ : Listed) →
+    list.Learnt κs a r x → list.Learnt κs a r′ x′ → (r ≡ r′) × (now (x .1 .0) ≡ now (x′ .1 .0))
+list-determined κs a x x′ r r′ p q = (one (p .0) (q .0), one (p .1 .0) (q .1 .0))
+
+-- ---- the program's lines
+
+pub program-determined : (κs : Lifetimes 2) (a x x′ : Lent × (Lent × Unit {0})) (r r′ : ℕ) →
+    program.Learnt κs a r x → program.Learnt κs a r′ x′ → (r ≡ r′) × (now (x .1 .0) ≡ now (x′ .1 .0))
+program-determined κs a x x′ r r′ p q = (one (p .0) (q .0), one (p .1) (q .1))
+
+-- ---- the calls for a host in C
+
+pub host-convert-determined : (κs : Lifetimes 5) (a x x′ : Lent × (Lent × (Lent × (Lent × (Lent × Unit {0}))))) (r r′ : ℕ) →
+    host-convert.Learnt κs a r x → host-convert.Learnt κs a r′ x′ →
+    (r ≡ r′) × ((now (x .1 .1 .0) ≡ now (x′ .1 .1 .0)) × ((now (x .1 .1 .1 .0) ≡ now (x′ .1 .1 .1 .0)) × (now (x .1 .1 .1 .1 .0) ≡ now (x′ .1 .1 .1 .1 .0))))
+host-convert-determined κs a x x′ r r′ p q = (one (p .0) (q .0), (one (p .1 .0) (q .1 .0), (one (p .1 .1 .0) (q .1 .1 .0), one (p .1 .1 .1) (q .1 .1 .1))))
+
+pub host-read-determined : (κs : Lifetimes 1) (a x x′ : Lent × Unit {0}) (r r′ : ℕ) → host-read.Learnt κs a r x → host-read.Learnt κs a r′ x′ → r ≡ r′
+host-read-determined κs a x x′ r r′ p q = one p q
+
+pub host-write-determined : (κs : Lifetimes 4) (a x x′ : Asked) (r r′ : ℕ) →
+    host-write.Learnt κs a r x → host-write.Learnt κs a r′ x′ → (r ≡ r′) × (now (x .1 .1 .1 .1 .1 .1 .1 .1 .0) ≡ now (x′ .1 .1 .1 .1 .1 .1 .1 .1 .0))
+host-write-determined κs a x x′ r r′ p q = (one (p .0) (q .0), one (p .1) (q .1))
+
+pub host-offer-determined : (κs : Lifetimes 2) (a x x′ : Lent × (Lent × Unit {0})) (r r′ : ℕ) →
+    host-offer.Learnt κs a r x → host-offer.Learnt κs a r′ x′ → (r ≡ r′) × (now (x .0) ≡ now (x′ .0))
+host-offer-determined κs a x x′ r r′ p q = (one (p .0) (q .0), one (p .1) (q .1))
+
+pub host-hand-out-determined : (κs : Lifetimes 1) (a x x′ : Lent × Unit {0}) (r r′ : ℕ) →
+    host-hand-out.Learnt κs a r x → host-hand-out.Learnt κs a r′ x′ → (r ≡ r′) × (now (x .0) ≡ now (x′ .0))
+host-hand-out-determined κs a x x′ r r′ p q = (one (p .0) (q .0), one (p .1) (q .1))
