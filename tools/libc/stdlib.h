@@ -7,3 +7,5 @@
 void *malloc(size_t);
 void free(void *);
 void exit(int);
+void _Exit(int);
+void qsort(void *, size_t, size_t, int (*)(const void *, const void *));

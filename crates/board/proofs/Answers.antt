@@ -2,27 +2,33 @@
 --     offer-bad, offer-full, offer-taken          an offer of records
 --     hand-bad, hand-none, hand-full, hand-given  a hand-out
 --     list-bad, list-short, list-given            the list
-use Prim.Native.Nat.{ℕ, suc, _+_, _*_, _-_, _/_, _≤_, _<_}
-use mathlib.Core.Bool.{true, false}
+--     finds-none, finds-rows                      what is found for it
+--     list-counts, list-within, list-lent         its rows are as many as it says, and fit; more than 170 lent are as good as 170
+use Prim.Native.Nat.{ℕ, suc, _+_, _*_, _-_, _≤_, _<_}
+use mathlib.Core.Bool.{Bool, true, false}
 use mathlib.Core.Path.{_≡_, refl, sym, ap, ap₂, _∙_, subst}
 use mathlib.Core.Logic.{inl}
 use mathlib.Core.List.{List, [], _∷_, _++_}
 use native.Mathlib.Omega.{arith}
 use lib.Dec.{leb}
-use lib.ListN.{length, drop}
-use borrow.Author.Tests.{le-leb, lt-leb}
+use lib.ListN.{length, take, drop, length-map}
+use borrow.Author.Tests.{le-leb, lt-leb, leb-true}
+use Rattle.octets.specs.Bytes.{pick}
 use Rattle.octets.proofs.Tests.{picked, passed-over}
 use Rattle.records.specs.Record.{aired}
+use Rattle.ledger.specs.declared.Row.{Row}
 use Rattle.ledger.specs.Sorted.{In, Sorted, insert, insertAll}
-use Rattle.ledger.specs.Board.{carried, live, ordered, due, indexOf, rowsOf}
+use Rattle.ledger.specs.Board.{carried, live, ordered, due, indexOf, rowOf, rowsOf}
 use Rattle.ledger.specs.Scan.{after, bestOf}
 use Rattle.ledger.proofs.Sorts.{insert-new, insert-length, insertAll-grows}
 use Rattle.ledger.proofs.Dues.{in-due}
 use Rattle.slots.specs.Slots.{rec, recs, flat}
+use Rattle.board.specs.declared.Listed.{Listed}
+use Rattle.board.specs.declared.Rows.{Rows}
 use Rattle.board.specs.Rules.{boardOf, boardOk, encode, added}
-use Rattle.board.specs.Calls.{offerRefused, offerTo, offerOf, handRefused, handTo, handOf, listRefused, listTo, listOf}
+use Rattle.board.specs.Calls.{offerRefused, offerTo, offerOf, handRefused, handTo, handOf, Listing, listRefused, listTo, listOf}
 use Rattle.board.proofs.Boards.{board-recs, board-within, kept, encoded}
-use Rattle.board.proofs.Finds.{Found, none, found, find, start-due}
+use Rattle.board.proofs.Finds.{Found, none, found, find, start-due, due-most}
 
 -- ---- an offer
 
@@ -145,11 +151,64 @@ module _ (s : List ℕ) (m n k : ℕ) (is : n ≡ length (boardOf s)) (ok : boar
   unfolding listOf
   list-to = picked (boardOk s) (listTo (rowsOf (boardOf s)) m) (listRefused 1) ok ∙ ap (λ (b : List (List ℕ)). listTo (rowsOf b) m) (sym (board-recs s n is))
 
-  pub list-short : m / 2 < k → listOf s m ≡ listRefused 2
-  list-short h = list-to ∙ passed-over (leb (length (rowsOf (recs n s))) (m / 2)) _ (listRefused 2) (lt-leb (length (rowsOf (recs n s))) (m / 2) (omega arith))
+  pub list-short : m < k → listOf s m ≡ listRefused 2
+  list-short h = list-to ∙ passed-over (leb (length (rowsOf (recs n s))) m) _ (listRefused 2) (lt-leb (length (rowsOf (recs n s))) m (omega arith))
 
-  pub list-given : k ≤ m / 2 → listOf s m ≡ record { answer = record { number = 0; count = k }; rows = rowsOf (recs n s) }
+  pub list-given : k ≤ m → listOf s m ≡ record { answer = record { number = 0; count = k }; rows = rowsOf (recs n s) }
   list-given h =
       list-to
-      ∙ picked (leb (length (rowsOf (recs n s))) (m / 2)) _ (listRefused 2) (le-leb (length (rowsOf (recs n s))) (m / 2) (omega arith))
+      ∙ picked (leb (length (rowsOf (recs n s))) m) _ (listRefused 2) (le-leb (length (rowsOf (recs n s))) m (omega arith))
       ∙ ap (λ (a : ℕ). record { answer = record { number = 0; count = a }; rows = rowsOf (recs n s) }) (sym count)
+
+-- what is found for an outcome: its answer, and its rows from the start
+abbrev pub Finds : Listing → Rows → Type 0
+Finds o r = (r .answer ≡ o .answer) × (take (r .answer .count) (r .rows) ≡ o .rows)
+
+pub finds-none : (o : Listing) (number : ℕ) (r : Rows) → o ≡ listRefused number → r .answer ≡ listRefused number .answer → Finds o r
+finds-none o number r e a = (a ∙ sym (ap (λ (x : Listing). x .answer) e), (ap (λ (x : Listed). take (x .count) (r .rows)) a ∙ sym (ap (λ (x : Listing). x .rows) e)))
+
+pub finds-rows : (o : Listing) (rows : List Row) (r : Rows) → o ≡ record { answer = record { number = 0; count = r .answer .count }; rows = rows } → r .answer .number ≡ 0 → take (r .answer .count) (r .rows) ≡ rows → Finds o r
+finds-rows o rows r e z t = (ap (λ (x : ℕ). record { number = x; count = r .answer .count }) z ∙ sym (ap (λ (x : Listing). x .answer) e), (t ∙ sym (ap (λ (x : Listing). x .rows) e)))
+
+-- ---- the rows of the list
+
+by-test : (P : Listing → Type 0) (t : Bool) (x y : Listing) → (t ≡ true → P x) → P y → P (pick t x y)
+by-test P true x y h k = h refl
+by-test P false x y h k = k
+
+module _ (s : List ℕ) (m : ℕ) where
+  abbrev rows : List Row
+  rows = rowsOf (boardOf s)
+
+  abbrev given : Listing
+  given = record { answer = record { number = 0; count = length rows }; rows = rows }
+
+  -- what holds of each outcome holds of the list
+  by-cases : (P : Listing → Type 0) → (length rows ≤ m → P given) → ((number : ℕ) → P (listRefused number)) → P (listOf s m)
+  unfolding listOf
+  by-cases P h k = by-test P (boardOk s) (listTo rows m) (listRefused 1) (λ b. by-test P (leb (length rows) m) given (listRefused 2) (λ e. h (leb-true (length rows) m e)) (k 2)) (k 1)
+
+  pub list-counts : listOf s m .answer .count ≡ length (listOf s m .rows)
+  list-counts = by-cases (λ (l : Listing). l .answer .count ≡ length (l .rows)) (λ e. refl) (λ number. refl)
+
+  pub list-within : length (listOf s m .rows) ≤ m
+  list-within = by-cases (λ (l : Listing). length (l .rows) ≤ m) (λ e. e) (λ number. omega arith)
+
+  rows-most : boardOk s ≡ true → length rows ≤ 170
+  unfolding rowsOf
+  rows-most ok =
+      let n : ℕ = length (boardOf s) in
+      let d : length (due (recs n s)) ≤ n = due-most n s in
+      omega (arith, length-map (due (boardOf s)) (rowOf (boardOf s)), ap (λ (b : List (List ℕ)). length (due b)) (board-recs s n refl), d, filled-most s n refl ok)
+
+  pub list-lent : listOf s (pick (leb 170 m) 170 m) ≡ listOf s m
+  unfolding listOf
+  list-lent = go (boardOk s) refl
+    where
+      at : (t : Bool) → leb 170 m ≡ t → length rows ≤ 170 → listTo rows (pick t 170 m) ≡ listTo rows m
+      at true e h = ap (λ (b : Bool). pick b given (listRefused 2)) (le-leb (length rows) 170 h ∙ sym (le-leb (length rows) m (omega (arith, leb-true 170 m e))))
+      at false e h = refl
+
+      go : (b : Bool) → boardOk s ≡ b → pick b (listTo rows (pick (leb 170 m) 170 m)) (listRefused 1) ≡ pick b (listTo rows m) (listRefused 1)
+      go true e = at (leb 170 m) refl (rows-most e)
+      go false e = refl

@@ -15,28 +15,27 @@ use native.Mathlib.Nat.{zero-add}
 use native.Mathlib.Numerals.{add-one}
 use native.Mathlib.Omega.{arith}
 use lib.Dec.{eqb}
-use lib.ListN.{length, getD, take, drop, set, drop-of-length-le, length-take, length-drop, length-map}
-use lib.Seq.{sets, sets-eq, length-sets, drop-drop, take-take, take-at, length-take-le, getD-take, getD-set-same, getD-set-other}
+use lib.ListN.{length, getD, take, drop, set, drop-of-length-le, length-drop, length-map, length-set}
+use lib.Seq.{sets, sets-eq, drop-drop, take-take, take-at, getD-set-same, getD-set-other}
 use borrow.Author.Tests.{eq-eqb, ne-eqb}
 use Rattle.octets.specs.declared.Order.{Order}
 use Rattle.octets.specs.declared.Order.the-variants.{Less, Same, More}
 use Rattle.octets.specs.Bytes.{pick, same}
 use Rattle.octets.specs.Order.{cmp, choose}
-use Rattle.octets.proofs.Parts.{length-part, tail-step}
-use Rattle.octets.proofs.Runs.{sets-append, sets-more}
+use Rattle.octets.proofs.Parts.{length-part}
 use Rattle.octets.proofs.Tests.{every-of, one-fails}
 use Rattle.octets.proofs.Everys.{last-decides}
 use Rattle.records.specs.Record.{kind, key, header, withdrawal, aired, pad}
 use Rattle.records.proofs.Records.{header-long}
 use Rattle.records.proofs.ZeroFill.{pad-whole}
+use Rattle.ledger.specs.declared.Row.{Row}
 use Rattle.ledger.specs.Sorted.{In, has}
-use Rattle.ledger.specs.Board.{carried, unwithdrawn, live, ordered, due, carries, indexOf, countOf, Row, rowOf, rowsOf}
+use Rattle.ledger.specs.Board.{carried, unwithdrawn, live, ordered, due, carries, indexOf, countOf, rowOf, rowsOf}
 use Rattle.ledger.specs.Scan.{after, bestOf}
 use Rattle.ledger.proofs.Dues.{in-due}
 use Rattle.ledger.proofs.Scans.{Best, nothing, first, best, best-same, best-first, best-less, best-equal, best-more, after-start, after-next, row-index, row-count, ordered-length}
 use Rattle.slots.specs.Slots.{rec, recs}
 use Rattle.slots.proofs.Records.{recs-length, recs-get, recs-drop, recs-snoc, in-recs, drop-take}
-use Rattle.board.specs.Calls.{numbers}
 use Rattle.board.specs.Marks.{Marks}
 
 -- ---- the fields of record i
@@ -207,31 +206,27 @@ abbrev pub rowsLeft : ℕ → List (List ℕ) → List Row
 rowsLeft k b = map (rowOf b) (drop k (due b))
 
 -- k rows stand, the last of them for the header g
-pub record Standing (n : ℕ) (s : List ℕ) (start out : List ℕ) (k j : ℕ) : Type 0 where
+pub record Standing (n : ℕ) (s : List ℕ) (start out : List Row) (k j : ℕ) : Type 0 where
   pub behind : List ℕ
   pub scanned : j ≡ bestOf n (after (recs n s) behind) (recs n s)
   pub left : ordered (after (recs n s) behind) (recs n s) ≡ drop k (due (recs n s))
   pub fits : k ≤ length (due (recs n s))
   pub same-long : length out ≡ length start
-  pub rows : sets out (k * 2) (numbers (rowsLeft k (recs n s))) ≡ sets start 0 (numbers (rowsLeft 0 (recs n s)))
+  pub rows : sets out k (rowsLeft k (recs n s)) ≡ sets start 0 (rowsLeft 0 (recs n s))
 
 in-drop : (h : List ℕ) (k : ℕ) (l : List (List ℕ)) → In h (drop k l) → In h l
 in-drop h zero l m = m
 in-drop h (suc k) [] m = m
 in-drop h (suc k) (x ∷ l) m = inr (in-drop h k l m)
 
-numbers-long : (rows : List Row) → length (numbers rows) ≡ length rows * 2
-numbers-long [] = refl
-numbers-long (r ∷ rows) = omega (arith, numbers-long rows)
-
-pub stand-start : (n : ℕ) (s start : List ℕ) (j : ℕ) → n * 384 ≤ length s → j ≡ bestOf n (after (recs n s) []) (recs n s) → Standing n s start start 0 j
+pub stand-start : (n : ℕ) (s : List ℕ) (start : List Row) (j : ℕ) → n * 384 ≤ length s → j ≡ bestOf n (after (recs n s) []) (recs n s) → Standing n s start start 0 j
 stand-start n s start j h e = record { behind = []; scanned = e; left = start-due n s h; fits = omega arith; same-long = refl; rows = refl }
 
 pub due-most : (n : ℕ) (s : List ℕ) → length (due (recs n s)) ≤ n
 unfolding due
 due-most n s = omega (arith, ordered-length (live (recs n s)) (recs n s), recs-length n s)
 
-module _ (n : ℕ) (s start out : List ℕ) (k j : ℕ) (w : Standing n s start out k j) where
+module _ (n : ℕ) (s : List ℕ) (start out : List Row) (k j : ℕ) (w : Standing n s start out k j) where
   pub found-now : Found n s (w .behind) j
   found-now = find n s (w .behind) j (w .scanned)
 
@@ -244,23 +239,22 @@ module _ (n : ℕ) (s start out : List ℕ) (k j : ℕ) (w : Standing n s start 
       go (found h hs f lt c is) = let q = ap length (sym f ∙ w .left) in omega (arith, simp length-drop at q)
 
   -- one row more
-  pub stand-next : (count : ℕ) (h out′ : List ℕ) (j′ : ℕ) → j < n → count ≡ countOf (live (recs n s)) (carried (rec j s)) (recs n s)
-      → out′ ≡ sets out (k * 2) (j ∷ count ∷ []) → h ≡ carried (rec j s) → j′ ≡ bestOf n (after (recs n s) h) (recs n s) → Standing n s start out′ (k + 1) j′
-  stand-next count g out′ j′ l ec eo eg ej = go found-now
+  pub stand-next : (count : ℕ) (h : List ℕ) (j′ : ℕ) → j < n → count ≡ countOf (live (recs n s)) (carried (rec j s)) (recs n s)
+      → h ≡ carried (rec j s) → j′ ≡ bestOf n (after (recs n s) h) (recs n s) → Standing n s start (set out k (record { index = j; count = count })) (k + 1) j′
+  stand-next count g j′ l ec eg ej = go found-now
     where
-      go : Found n s (w .behind) j → Standing n s start out′ (k + 1) j′
+      go : Found n s (w .behind) j → Standing n s start (set out k (record { index = j; count = count })) (k + 1) j′
       go (none f e) = absurd (omega arith)
       go (found h hs f lt c is) = record {
         behind = g;
         scanned = ej;
         left = ap (λ (x : List ℕ). ordered (after (recs n s) x) (recs n s)) (eg ∙ c) ∙ after-next (recs n s) (w .behind) h hs f ∙ sym tail;
         fits = rw add-one (row-within l);
-        same-long = ap length eo ∙ length-sets out (k * 2) (j ∷ count ∷ []) ∙ w .same-long;
+        same-long = length-set out k _ ∙ w .same-long;
         rows =
-            ap₂ (λ (x : List ℕ) (m : ℕ). sets x m (numbers (rowsLeft (k + 1) (recs n s)))) eo (let q : (k + 1) * 2 ≡ k * 2 + 2 = omega arith in q)
-            ∙ sets-append out (k * 2) (j ∷ count ∷ []) (numbers (rowsLeft (k + 1) (recs n s)))
-            ∙ ap₂ (λ (x y : ℕ). sets out (k * 2) (x ∷ y ∷ numbers (rowsLeft (k + 1) (recs n s)))) is (ec ∙ ap (λ (x : List ℕ). countOf (live (recs n s)) x (recs n s)) c ∙ row-count (recs n s) h unaired)
-            ∙ ap (λ (d : List (List ℕ)). sets out (k * 2) (numbers (map (rowOf (recs n s)) d))) (ap (λ (x : List (List ℕ)). h ∷ x) tail ∙ sym all)
+            ap (λ (m : ℕ). sets (set out k (record { index = j; count = count })) m (map (rowOf (recs n s)) (drop m (due (recs n s))))) (add-one k)
+            ∙ ap₂ (λ (x y : ℕ). sets out k (record { index = x; count = y } ∷ map (rowOf (recs n s)) (drop (suc k) (due (recs n s))))) is (ec ∙ ap (λ (x : List ℕ). countOf (live (recs n s)) x (recs n s)) c ∙ row-count (recs n s) h unaired)
+            ∙ ap (λ (d : List (List ℕ)). sets out k (map (rowOf (recs n s)) d)) (ap (λ (x : List (List ℕ)). h ∷ x) (ap (λ (m : ℕ). drop m (due (recs n s))) (sym (add-one k)) ∙ tail) ∙ sym all)
             ∙ w .rows;
       }
         where
@@ -274,13 +268,13 @@ module _ (n : ℕ) (s start out : List ℕ) (k j : ℕ) (w : Standing n s start 
           unaired = in-due (recs n s) h .0 (in-drop h k (due (recs n s)) (subst (In h) (sym all) (inl refl))) .not-aired
 
   -- no header is left
-  pub stand-end : n ≤ j → length start ≡ 340 → n ≤ 170 → (k ≡ length (rowsOf (recs n s))) × (take (k * 2) out ≡ numbers (rowsOf (recs n s)))
+  pub stand-end : n ≤ j → length start ≡ 170 → n ≤ 170 → (k ≡ length (rowsOf (recs n s))) × (take k out ≡ rowsOf (recs n s))
   unfolding rowsOf
   stand-end l ls high = go found-now
     where
-      go : Found n s (w .behind) j → (k ≡ length (map (rowOf (recs n s)) (due (recs n s)))) × (take (k * 2) out ≡ numbers (map (rowOf (recs n s)) (due (recs n s))))
+      go : Found n s (w .behind) j → (k ≡ length (map (rowOf (recs n s)) (due (recs n s)))) × (take k out ≡ map (rowOf (recs n s)) (due (recs n s)))
       go (found h hs f lt c is) = absurd (omega arith)
-      go (none f e) = (count, ap (take (k * 2)) out-is ∙ take-at (numbers (rowsLeft 0 (recs n s))) (drop (length (numbers (rowsLeft 0 (recs n s)))) start) (k * 2) (many ∙ ap (λ (m : ℕ). m * 2) (sym count)))
+      go (none f e) = (count, ap (take k) out-is ∙ take-at (rowsLeft 0 (recs n s)) (drop (length (rowsLeft 0 (recs n s))) start) k (sym count))
         where
           nil : drop k (due (recs n s)) ≡ []
           nil = sym (w .left) ∙ f
@@ -288,22 +282,9 @@ module _ (n : ℕ) (s start out : List ℕ) (k j : ℕ) (w : Standing n s start 
           count : k ≡ length (map (rowOf (recs n s)) (due (recs n s)))
           count = let q = ap length nil in omega (arith, simp length-drop at q, length-map (due (recs n s)) (rowOf (recs n s)), w .fits)
 
-          many : length (numbers (rowsLeft 0 (recs n s))) ≡ length (map (rowOf (recs n s)) (due (recs n s))) * 2
-          many = numbers-long (map (rowOf (recs n s)) (due (recs n s)))
-
-          out-is : out ≡ numbers (rowsLeft 0 (recs n s)) ++ drop (length (numbers (rowsLeft 0 (recs n s)))) start
+          out-is : out ≡ rowsLeft 0 (recs n s) ++ drop (length (rowsLeft 0 (recs n s))) start
           out-is =
-              sym (ap (λ (d : List (List ℕ)). sets out (k * 2) (numbers (map (rowOf (recs n s)) d))) nil)
+              sym (ap (λ (d : List (List ℕ)). sets out k (map (rowOf (recs n s)) d)) nil)
               ∙ w .rows
-              ∙ sets-eq (numbers (rowsLeft 0 (recs n s))) start 0 (omega (arith, many, length-map (due (recs n s)) (rowOf (recs n s)), due-most n s))
-              ∙ ap (λ (m : ℕ). numbers (rowsLeft 0 (recs n s)) ++ drop m start) (zero-add (length (numbers (rowsLeft 0 (recs n s)))))
-
--- ---- numbers put at the start of others, one after the other
-
-pub number-next : (d t r : List ℕ) (n i : ℕ) → n ≤ length t → i < n → sets d i (drop i (take n t)) ≡ r → sets (set d i (getD t i 0)) (i + 1) (drop (i + 1) (take n t)) ≡ r
-number-next d t r n i h l e =
-    let k : i < length (take n t) = rw (length-take-le n t h) l in
-    sets-more d i (getD (take n t) i 0) (getD t i 0) (drop (i + 1) (take n t)) r (ap (sets d i) (sym (tail-step (take n t) i k)) ∙ e) (getD-take n t i 0 l)
-
-pub number-end : (d t r : List ℕ) (n i : ℕ) → n ≤ i → sets d i (drop i (take n t)) ≡ r → d ≡ r
-number-end d t r n i l e = sym (ap (sets d i) (drop-of-length-le (take n t) {i = i} (simp length-take (omega arith)))) ∙ e
+              ∙ sets-eq (rowsLeft 0 (recs n s)) start 0 (omega (arith, length-map (due (recs n s)) (rowOf (recs n s)), due-most n s))
+              ∙ ap (λ (m : ℕ). rowsLeft 0 (recs n s) ++ drop m start) (zero-add (length (rowsLeft 0 (recs n s))))

@@ -1,12 +1,13 @@
 -- An offer of records, a hand-out and the list: all that each answers, and what it leaves in the lent bytes and rows.
-use Prim.Native.Nat.{ℕ, _*_, _-_, _/_}
+use Prim.Native.Nat.{ℕ, _*_, _-_}
 use mathlib.Core.List.{List, [], _∷_}
 use lib.Dec.{leb}
-use lib.ListN.{length}
+use lib.ListN.{length, replicate}
 use Rattle.octets.specs.Bytes.{pick}
 use Rattle.records.specs.Record.{aired}
 use Rattle.ledger.specs.Sorted.{insert, insertAll}
-use Rattle.ledger.specs.Board.{live, due, indexOf, Row, rowsOf}
+use Rattle.ledger.specs.declared.Row.{Row}
+use Rattle.ledger.specs.Board.{live, due, indexOf, rowsOf}
 use Rattle.board.specs.Rules.{boardOf, boardOk, encode}
 use Rattle.board.specs.declared.Added.{Added}
 use Rattle.board.specs.declared.Handed.{Handed}
@@ -52,7 +53,7 @@ handTo s b (h ∷ hs) =
 unfoldable pub handOf : List ℕ → Handing
 handOf s = pick (boardOk s) (handTo s (boardOf s) (due (boardOf s))) (handRefused 1 s)
 
--- ---- the list, with m numbers lent for its rows: 1 the board, 2 rows below the due count
+-- ---- the list, with m rows lent: 1 the board, 2 rows below the due count
 
 -- rows are what is written from the start of the lent ones; rows past it stay
 pub record Listing : Type 0 where
@@ -63,12 +64,14 @@ abbrev pub listRefused : ℕ → Listing
 listRefused number = record { answer = record { number = number; count = 0 }; rows = [] }
 
 abbrev pub listTo : List Row → ℕ → Listing
-listTo rows m = pick (leb (length rows) (m / 2)) (record { answer = record { number = 0; count = length rows }; rows = rows }) (listRefused 2)
+listTo rows m = pick (leb (length rows) m) (record { answer = record { number = 0; count = length rows }; rows = rows }) (listRefused 2)
 
 unfoldable pub listOf : List ℕ → ℕ → Listing
 listOf s m = pick (boardOk s) (listTo (rowsOf (boardOf s)) m) (listRefused 1)
 
--- rows as numbers: index and count of each
-abbrev pub numbers : List Row → List ℕ
-numbers [] = []
-numbers (r ∷ rs) = r .index ∷ r .count ∷ numbers rs
+abbrev pub blank : Row
+blank = record { index = 0; count = 0 }
+
+-- rows before anything is written to them
+abbrev pub blanks : List Row
+blanks = replicate 170 blank

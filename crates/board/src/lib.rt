@@ -1,10 +1,12 @@
 // The board in lent bytes: its rules, an offer of records, the hand-out of the first due header, and the list of the due headers.
+use ledger::Row;
 use octets::Order;
 use records::Record;
 ghost use mathlib.Core.Path.{_≡_};
 ghost use mathlib.Core.Bool.{false};
-ghost use mathlib.Core.List.{[], _∷_};
+ghost use mathlib.Core.List.{[]};
 ghost use Prim.Native.Nat.{_+_, _*_, _≤_, _<_};
+ghost use lib.Dec.{leb};
 ghost use lib.ListN.{length, take};
 ghost use lib.Seq.{sets};
 ghost use Rattle.octets.specs.Bytes.{pick, every};
@@ -14,15 +16,13 @@ ghost use Rattle.ledger.specs.Board.{carried, live, carries, countOf, rowsOf};
 ghost use Rattle.ledger.specs.Scan.{after, bestOf};
 ghost use Rattle.slots.specs.Slots.{rec, recs};
 ghost use Rattle.board.specs.Rules.{boardOf, boardOk, added};
-ghost use Rattle.board.specs.Calls.{offerOf, handOf, listOf, numbers};
+ghost use Rattle.board.specs.Calls.{offerOf, handOf, listRefused, listOf, blanks};
 ghost use Rattle.board.specs.Marks.{Marks};
 
-// The most records that a board holds, their bytes, and two numbers for the row of each.
+// The most records that a board holds, and their bytes.
 const MOST: usize = 170;
 
 const BYTES: usize = 65280;
-
-const NUMBERS: usize = 340;
 
 // What an offer of records answers: how many were added.
 pub struct Added {
@@ -40,6 +40,12 @@ pub struct Handed {
 pub struct Listed {
     pub number: u32,
     pub count: usize,
+}
+
+// The same, and the row of each from the start.
+pub struct Rows {
+    pub answer: Listed,
+    pub rows: [Row; MOST],
 }
 
 // ---- the rules
@@ -92,8 +98,9 @@ fn are_records(s: &[u8], n: usize) -> bool
     true
 }
 
-// Whether a board keeps the rules.
-pub fn is_board(s: &[u8]) -> bool
+// Whether a board with n filled records keeps the rules.
+fn keeps_rules(s: &[u8], n: usize) -> bool
+    requires { ⌜ n ≡ length (boardOf (now s)) ⌝ }
     ensures { λ r. ⌜ r ≡ boardOk (now (s .entry)) ⌝ }
 {
     let len = s.len();
@@ -106,7 +113,6 @@ pub fn is_board(s: &[u8]) -> bool
     if len % Record::SIZE != 0 {
         return false;
     }
-    let n = filled(s);
     if !is_ascending(s, n) {
         return false;
     }
@@ -115,6 +121,13 @@ pub fn is_board(s: &[u8]) -> bool
     }
     let at = n * Record::SIZE;
     records::are_zeros(&s[at..])
+}
+
+// Whether a board keeps the rules.
+pub fn is_board(s: &[u8]) -> bool
+    ensures { λ r. ⌜ r ≡ boardOk (now (s .entry)) ⌝ }
+{
+    keeps_rules(s, filled(s))
 }
 
 // ---- offers
@@ -126,13 +139,13 @@ pub fn offer_records(s: &mut [u8], batch: &[u8], m: usize) -> Added
     ensures { λ _. ⌜ now (s .exit) ≡ offerOf (now (s .entry)) (recs m (now (batch .entry))) .bytes ⌝ }
     ensures { λ r. ⌜ (r .number ≤ 17) × (r .added ≤ 170) ⌝ }
 {
-    if !is_board(s) {
+    let n = filled(s);
+    if !keeps_rules(s, n) {
         return Added {
             number: 1,
             added: 0,
         };
     }
-    let n = filled(s);
     let k = slots::tally(s, n, batch, m);
     if s.len() < (n + k) * Record::SIZE {
         return Added {
@@ -266,13 +279,13 @@ pub fn hand_out(s: &mut [u8]) -> Handed
     ensures { λ _. ⌜ now (s .exit) ≡ handOf (now (s .entry)) .bytes ⌝ }
     ensures { λ r. ⌜ (r .number ≤ 17) × (r .index < 170) ⌝ }
 {
-    if !is_board(s) {
+    let n = filled(s);
+    if !keeps_rules(s, n) {
         return Handed {
             number: 1,
             index: 0,
         };
     }
-    let n = filled(s);
     let j = first_due(s, n);
     if j == n {
         return Handed {
@@ -325,81 +338,93 @@ fn count_alike(s: &[u8], n: usize, marks: &[bool; MOST], j: usize) -> usize
     k
 }
 
-// Row k, as index and count.
-fn put_row(out: &mut [u32], k: usize, index: usize, count: usize)
-    requires { ⌜ (k * 2 + 2 ≤ length (now out)) × (index ≤ 170) × (count ≤ 170) ⌝ }
-    ensures { λ _. ⌜ now (out .exit) ≡ sets (now (out .entry)) (k * 2) (index ∷ count ∷ []) ⌝ }
-{
-    let at = k * 2;
-    out[at] = index as u32;
-    out[at + 1] = count as u32;
-}
-
-// Rows one behind another, and how many.
-struct Rows {
-    numbers: [u32; NUMBERS],
-    due: usize,
-}
-
 // The rows of the due headers among the first n records.
 fn due_rows(s: &[u8], n: usize) -> Rows
     requires { ⌜ (n * 384 ≤ length (now s)) × (n ≤ 170) ⌝ }
-    ensures { λ r. ⌜ r .due ≡ length (rowsOf (recs n (now (s .entry)))) ⌝ }
-    ensures { λ r. ⌜ take (r .due * 2) (r .numbers) ≡ numbers (rowsOf (recs n (now (s .entry)))) ⌝ }
-    ensures { λ r. ⌜ r .due ≤ 170 ⌝ }
+    ensures { λ r. ⌜ r .answer .number ≡ 0 ⌝ }
+    ensures { λ r. ⌜ r .answer .count ≡ length (rowsOf (recs n (now (s .entry)))) ⌝ }
+    ensures { λ r. ⌜ take (r .answer .count) (r .rows) ≡ rowsOf (recs n (now (s .entry))) ⌝ }
+    ensures { λ r. ⌜ r .answer .count ≤ 170 ⌝ }
 {
     let marks = live_marks(s, n);
-    let mut out = [0u32; NUMBERS];
+    let mut rows = [Row { index: 0, count: 0 }; MOST];
     let mut k: usize = 0;
     let mut j = first_after(s, n, &marks, &s[0..0]);
     while j < n {
         let count = count_alike(s, n, &marks, j);
-        put_row(&mut out, k, j, count);
+        rows[k] = Row { index: j, count };
         k += 1;
         j = first_after(s, n, &marks, header_at(s, j));
     }
-    Rows {
-        numbers: out,
-        due: k,
-    }
+    let answer = Listed {
+        number: 0,
+        count: k,
+    };
+    Rows { answer, rows }
 }
 
-// Puts the first n of the numbers at the start of out.
-fn put_numbers(out: &mut [u32], from: &[u32], n: usize)
-    requires { ⌜ (n ≤ length (now out)) × (n ≤ length (now from)) ⌝ }
-    ensures { λ _. ⌜ now (out .exit) ≡ sets (now (out .entry)) 0 (take n (now (from .entry))) ⌝ }
+// A refusal, which has no rows.
+fn refused(number: u32) -> Rows
+    ensures { λ r. ⌜ r .answer ≡ listRefused number .answer ⌝ }
 {
-    let mut i: usize = 0;
-    while i < n {
-        out[i] = from[i];
-        i += 1;
-    }
+    let answer = Listed { number, count: 0 };
+    let rows = [Row { index: 0, count: 0 }; MOST];
+    Rows { answer, rows }
 }
 
-// Lists the due headers in header order: a row of index and count for each, two numbers to a row.
-pub fn list(s: &[u8], rows: &mut [u32]) -> Listed
+// What the list answers with so many rows lent, and the rows: none on a refusal.
+fn listing(s: &[u8], room: usize) -> Rows
+    ensures { λ r. ⌜ r .answer ≡ listOf (now (s .entry)) room .answer ⌝ }
+    ensures { λ r. ⌜ take (r .answer .count) (r .rows) ≡ listOf (now (s .entry)) room .rows ⌝ }
+    ensures { λ r. ⌜ (r .answer .number ≤ 17) × (r .answer .count ≤ 170) ⌝ }
+{
+    let n = filled(s);
+    if !keeps_rules(s, n) {
+        return refused(1);
+    }
+    let due = due_rows(s, n);
+    if room < due.answer.count {
+        return refused(2);
+    }
+    due
+}
+
+// Lists the due headers in header order: a row of index and count for each.
+pub fn list(s: &[u8], rows: &mut [Row]) -> Listed
     ensures { λ r. ⌜ r ≡ listOf (now (s .entry)) (length (now (rows .entry))) .answer ⌝ }
-    ensures { λ _. ⌜ now (rows .exit) ≡ sets (now (rows .entry)) 0 (numbers (listOf (now (s .entry)) (length (now (rows .entry))) .rows)) ⌝ }
+    ensures { λ _. ⌜ now (rows .exit) ≡ sets (now (rows .entry)) 0 (listOf (now (s .entry)) (length (now (rows .entry))) .rows) ⌝ }
     ensures { λ r. ⌜ (r .number ≤ 17) × (r .count ≤ 170) ⌝ }
 {
-    if !is_board(s) {
-        return Listed {
-            number: 1,
-            count: 0,
-        };
+    let l = listing(s, rows.len());
+    let due = l.rows;
+    let answer = l.answer;
+    let n = answer.count;
+    let mut k: usize = 0;
+    while k < n {
+        rows[k] = due[k];
+        k += 1;
     }
-    let listed = due_rows(s, filled(s));
-    let count = listed.due;
-    if rows.len() / 2 < count {
-        return Listed {
-            number: 2,
-            count: 0,
-        };
+    answer
+}
+
+// As many rows as are asked for, or as a board can have due headers.
+fn lent(room: usize) -> usize
+    ensures { λ r. ⌜ r ≡ pick (leb 170 room) 170 room ⌝ }
+{
+    if MOST <= room {
+        return MOST;
     }
-    let numbers = listed.numbers;
-    put_numbers(rows, &numbers, count * 2);
-    Listed {
-        number: 0,
-        count: count,
-    }
+    room
+}
+
+// The list into so many rows of an array of its own.
+pub fn list_rows(s: &[u8], room: usize) -> Rows
+    ensures { λ r. ⌜ r .answer ≡ listOf (now (s .entry)) room .answer ⌝ }
+    ensures { λ r. ⌜ r .rows ≡ sets blanks 0 (listOf (now (s .entry)) room .rows) ⌝ }
+    ensures { λ r. ⌜ (r .answer .number ≤ 17) × (r .answer .count ≤ 170) ⌝ }
+{
+    let mut rows = [Row { index: 0, count: 0 }; MOST];
+    let m = lent(room);
+    let answer = list(s, &mut rows[..m]);
+    Rows { answer, rows }
 }

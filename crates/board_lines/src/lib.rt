@@ -1,11 +1,11 @@
 // The case lines `offer`, `handout` and `list`.
+use ledger::Row;
 use lines::ROOM;
 use octets::Num;
+ghost use Prim.Native.Nat.{_≤_};
 
-// As many rows as a board can have due headers, of two numbers each.
+// As many rows as a board can have due headers.
 const ROWS: usize = 170;
-
-const NUMBERS: usize = 340;
 
 // A count or an index on a board, which is 170 at most.
 fn small(n: usize) -> u32 {
@@ -73,53 +73,38 @@ fn put_comma(out: &mut [u8], at: usize, k: usize) -> usize {
 }
 
 // A row, `index:count`.
-fn put_row(out: &mut [u8], at: usize, index: u32, count: u32) -> usize {
-    let first = lines::put_decimal(out, at, index);
+fn put_row(out: &mut [u8], at: usize, row: Row) -> usize {
+    let first = lines::put_decimal(out, at, small(row.index));
     let second = lines::put(out, first, b":");
-    lines::put_decimal(out, second, count)
+    lines::put_decimal(out, second, small(row.count))
 }
 
 // The first n rows, `-` where there is none.
-fn put_rows(out: &mut [u8], at: usize, rows: &[u32], n: usize) -> usize {
+fn put_rows(out: &mut [u8], at: usize, rows: [Row; ROWS], n: usize) -> usize
+    requires { ⌜ n ≤ 170 ⌝ }
+{
     if n == 0 {
         return lines::put(out, at, b"-");
     }
     let mut end = at;
     let mut k: usize = 0;
-    while k < ROWS {
-        if n <= k {
-            return end;
-        }
-        if rows.len() <= 2 * k + 1 {
-            return end;
-        }
+    while k < n {
+        let row = rows[k];
         let next = put_comma(out, end, k);
-        end = put_row(out, next, rows[2 * k], rows[2 * k + 1]);
+        end = put_row(out, next, row);
         k += 1;
     }
     end
 }
 
-// The numbers of the first `cap` rows, or all where there are fewer.
-fn lent_of(rows: &mut [u32], cap: usize) -> &mut [u32] {
-    if cap < rows.len() / 2 {
-        return &mut rows[..2 * cap];
-    }
-    rows
-}
-
-// The answer of the list into as many of the rows as `cap`; no board has more due headers than ROWS.
-fn list_into(board: &[u8], rows: &mut [u32], cap: usize, out: &mut [u8]) -> usize {
-    let l = board::list(board, lent_of(rows, cap));
-    let number = lines::put_decimal(out, 0, l.number);
-    let count = lines::put_spaced(out, number, small(l.count));
-    let end = lines::put(out, count, b" ");
-    put_rows(out, end, rows, l.count)
-}
-
 fn list_of(board: &[u8], cap: usize, out: &mut [u8]) -> usize {
-    let mut rows = [0u32; NUMBERS];
-    list_into(board, &mut rows, cap, out)
+    let l = board::list_rows(board, cap);
+    let answer = l.answer;
+    let number = lines::put_decimal(out, 0, answer.number);
+    let count = lines::put_spaced(out, number, small(answer.count));
+    let end = lines::put(out, count, b" ");
+    let rows = l.rows;
+    put_rows(out, end, rows, answer.count)
 }
 
 pub fn list(asked: &[u8], out: &mut [u8]) -> usize {

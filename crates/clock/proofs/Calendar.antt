@@ -15,7 +15,7 @@ use lib.Arith.{digits-div}
 use lib.ListN.{getD}
 use lib.Dec.{leb, eqb, lit<}
 use Rattle.octets.specs.Bytes.{pick}
-use Rattle.octets.proofs.Tests.{below, at-each, from-one}
+use Rattle.octets.proofs.Tests.{below, at-each, from-one, either-way}
 use Rattle.clock.specs.Calendar.{divides, leap, yearDays, months, sum, monthDays, daysBefore, daysTo}
 use Rattle.clock.specs.Period.{up}
 
@@ -54,11 +54,7 @@ day-in-year y m d h k e = omega (arith, month-is (leap y) m h k, before-most (le
 
 pub year-days-most : (y : ℕ) → yearDays y ≤ 366
 unfolding yearDays
-year-days-most y = either (leap y)
-  where
-    either : (l : Bool) → pick l 366 365 ≤ 366
-    either true = omega arith
-    either false = omega arith
+year-days-most y = either-way (λ (n : ℕ). n ≤ 366) (leap y) _ _ (λ e. omega arith) (λ e. omega arith)
 
 -- ---- years
 

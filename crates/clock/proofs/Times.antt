@@ -1,24 +1,24 @@
 -- The instant of a time, from its pieces.
---     accepted-inside     a time that is accepted is an instant of 2000 to 2099
+--     instant-low     the instant of a time is one of 2000 to 2099
 use mathlib.Core.Path.{_≡_, refl, sym, ap, ap₂, _∙_}
 use mathlib.Core.List.{List}
 use mathlib.Core.Logic.{_≢_}
-use mathlib.Core.Bool.{Bool, true, false}
+use mathlib.Core.Bool.{true, false}
 use Prim.Native.Nat.{ℕ, _+_, _-_, _*_, _≤_, _<_}
 use native.Mathlib.Omega.{arith}
 use borrow.Author.Tests.{eq-eqb, ne-eqb, leb-true, leb-false, ltb-true, le-ltb, lt-ltb}
 use lib.ListN.{length, drop, getD, length-take, length-drop}
 use lib.Seq.{take-all}
-use lib.IntN.{ℤ, pos, negsuc, negℤ, natAbs, _*ℤ_}
+use lib.IntN.{ℤ, pos, negsuc, natAbs, _*ℤ_}
 use lib.Signed.{mag, ltZ, leZ, nonNeg}
 use lib.Dec.{T, ltb, eqb}
 use mir.Syntax.{w64}
 use mir.Val.{toZ, ofZ}
-use Rattle.octets.specs.Bytes.{pick, every, holds, byteAt, part}
+use Rattle.octets.specs.Bytes.{every, holds, byteAt, part}
 use Rattle.octets.specs.declared.Num.the-variants.{Value}
-use Rattle.octets.proofs.Tests.{every-of, one-fails, picked, passed-over}
+use Rattle.octets.proofs.Tests.{every-of, one-fails, picked, passed-over, either-way}
 use Rattle.clock.specs.Calendar.{daysTo}
-use Rattle.clock.specs.Time.{reads, dateTests, dateOf, minutesOf, secondTests, secondOf, zoneTests, signed, offset, since2000, localTime, utc, span, within, timeTests, timeOf}
+use Rattle.clock.specs.Time.{reads, dateTests, dateOf, minutesOf, secondTests, secondOf, zoneTests, signed, offset, since2000, localTime, utc, span, within, timeTests, timeOf, instantIn}
 use Rattle.clock.specs.declared.Time.{Time}
 use Rattle.clock.specs.declared.Time.the-variants.{At}
 use Rattle.clock.proofs.Calendar.{days-to-2000}
@@ -69,32 +69,20 @@ within-is (pos n) h k =
     record { sign = tt; low = l; is = rw (lt-ltb n span l) }
 within-is (negsuc n) h k = let z : _≡_ {A = ℕ} 0 1 = cc in absurd (omega arith)
 
-within-inside : (z : ℤ) (n : ℕ) → within z ≡ At n → n < span
+within-low : (z : ℤ) → instantIn (within z) < span
 unfolding within
-within-inside (pos m) n h = chosen (ltb m span) refl h
-  where
-    chosen : (b : Bool) → ltb m span ≡ b → pick b (At m) Time.Bad ≡ At n → n < span
-    chosen true e h = let q : m ≡ n = cc in omega (arith, ltb-true m span e)
-    chosen false e h = let z : _≡_ {A = ℕ} 0 1 = cc in absurd (omega arith)
-within-inside (negsuc m) n h = let z : _≡_ {A = ℕ} 0 1 = cc in absurd (omega arith)
+within-low (pos m) = either-way (λ (x : Time). instantIn x < span) (ltb m span) _ _ (λ e. ltb-true m span e) (λ e. omega arith)
+within-low (negsuc m) = omega arith
 
-pub accepted-inside : (t : List ℕ) (n : ℕ) → timeOf t ≡ At n → n < span
+pub instant-low : (t : List ℕ) → instantIn (timeOf t) < span
 unfolding timeOf
-accepted-inside t n h = chosen (every holds (timeTests t)) h
-  where
-    chosen : (b : Bool) → pick b (within (utc (localTime t) (offset t))) Time.Bad ≡ At n → n < span
-    chosen true h = within-inside (utc (localTime t) (offset t)) n h
-    chosen false h = let z : _≡_ {A = ℕ} 0 1 = cc in absurd (omega arith)
+instant-low t = either-way (λ (x : Time). instantIn x < span) (every holds (timeTests t)) _ _ (λ e. within-low (utc (localTime t) (offset t))) (λ e. omega arith)
 
 -- ---- from the pieces that the code has read: days, second of the day, minutes behind the sign
 
 signed-most : (b m : ℕ) → mag (signed b m) ≤ m + 1
 unfolding signed
-signed-most b m = either (eqb b 45)
-  where
-    either : (t : Bool) → mag (pick t (negℤ (pos m)) (pos m)) ≤ m + 1
-    either true = mag-neg (pos m)
-    either false = omega arith
+signed-most b m = either-way (λ (z : ℤ). mag z ≤ m + 1) (eqb b 45) _ _ (λ e. mag-neg (pos m)) (λ e. omega arith)
 
 signed-back : (z : ℤ) (b m : ℕ) → z ≡ signed b m → m ≤ 899 → toZ w64 (ofZ w64 z) ≡ signed b m
 signed-back z b m e h = rw e (back (signed b m) (omega (arith, signed-most b m)))

@@ -1,7 +1,7 @@
 -- Times: which bytes are one, and its instant in seconds since 2000 began in UTC.
 use Prim.Native.Nat.{ℕ, _+_, _*_}
 use mathlib.Core.List.{List, [], _∷_}
-use mathlib.Core.Bool.{Bool}
+use mathlib.Core.Bool.{Bool, true, false}
 use lib.ListN.{length}
 use lib.IntN.{ℤ, pos, negsuc, negℤ, _-ℤ_, _*ℤ_}
 use lib.Dec.{ltb, eqb}
@@ -113,3 +113,13 @@ timeTests t = eqb (length t) 25 ∷ every holds (dateTests t) ∷ every holds (s
 -- the instant of a time
 unfoldable pub timeOf : List ℕ → Time
 timeOf t = pick (every holds (timeTests t)) (within (utc (localTime t) (offset t))) Time.Bad
+
+-- whether there is one
+abbrev pub isTime : Time → Bool
+isTime (At n) = true
+isTime Time.Bad = false
+
+-- its seconds, and 0 where there is none
+abbrev pub instantIn : Time → ℕ
+instantIn (At n) = n
+instantIn Time.Bad = 0

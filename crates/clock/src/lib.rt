@@ -8,7 +8,7 @@ ghost use lib.Seq.{sets};
 ghost use lib.Signed.{mag};
 ghost use Rattle.octets.specs.Bytes.{part};
 ghost use Rattle.clock.specs.Calendar.{leap, yearDays, monthDays, daysBefore, daysTo};
-ghost use Rattle.clock.specs.Time.{reads, dateTests, dateOf, minutesTests, minutesOf, secondTests, secondOf, isSign, zoneTests, signed, since2000, utc, span, within, timeOf};
+ghost use Rattle.clock.specs.Time.{reads, dateTests, dateOf, minutesTests, minutesOf, secondTests, secondOf, isSign, zoneTests, signed, since2000, utc, span, within, timeOf, isTime, instantIn};
 ghost use Rattle.clock.specs.Period.{periodOf};
 ghost use Rattle.clock.specs.Stamp.{yearDayOf, stampOf};
 ghost use Rattle.clock.specs.Written.{tttt, jjjhhmm};
@@ -253,6 +253,25 @@ pub fn instant_at(s: &[u8], at: usize, n: usize) -> Time
     }
     let end = at + n;
     instant(&s[at..end])
+}
+
+pub fn is_time(t: Time) -> bool
+    ensures { λ r. ⌜ r ≡ isTime t ⌝ }
+{
+    match t {
+        Time::At(_) => true,
+        Time::Bad => false,
+    }
+}
+
+// The seconds of an instant, and 0 where there is none.
+pub fn seconds(t: Time) -> u32
+    ensures { λ r. ⌜ r ≡ instantIn t ⌝ }
+{
+    match t {
+        Time::At(n) => n,
+        Time::Bad => 0,
+    }
 }
 
 // ---- the period

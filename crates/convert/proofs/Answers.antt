@@ -17,7 +17,6 @@ use Rattle.sentence.proofs.Lengths.{sentence-le}
 use Rattle.wording.proofs.Texts.{text-le}
 use Rattle.message.specs.Message.{messageOf}
 use Rattle.leaves.proofs.Fits.{audio-number}
-use Rattle.judgement.specs.Rules.{infoIn}
 use Rattle.judgement.specs.Judged.{judgedOf}
 use Rattle.judgement.specs.declared.Judged.{Judged}
 use Rattle.judgement.proofs.Bodies.{message-kept}

@@ -1,7 +1,7 @@
 -- Demand 1: bad input gets the number that document 01 gives, no call is refused where none of its numbers applies, and a refused call changes nothing.
 --     convert-numbered, offer-numbered, hand-out-numbered, list-numbered, read-numbered, write-numbered
 --     offer-refused, hand-out-refused, list-refused, write-refused      (Demand2 has those of a conversion)
-use Prim.Native.Nat.{ℕ, _*_, _/_}
+use Prim.Native.Nat.{ℕ, _*_}
 use mathlib.Core.Path.{_≡_, refl, sym, ap, _∙_}
 use mathlib.Core.Logic.{inl, inr, _↔_}
 use mathlib.Core.Bool.{Bool, true, false, not}
@@ -11,19 +11,21 @@ use lib.Dec.{eqb, leb}
 use lib.ListN.{length, drop}
 use lib.Seq.{sets}
 use Rattle.octets.specs.Bytes.{pick, every}
+use Rattle.octets.proofs.Tests.{either-way}
 use Rattle.parts.specs.Parts.{bodyOk, stationOk}
 use Rattle.parts.specs.declared.Parts.{Parts}
 use Rattle.header.specs.declared.Read.{Read}
 use Rattle.header.specs.Header.{headerForm, readOf, writeNumber, writeOf, writeBytes}
 use Rattle.records.specs.Record.{aired}
+use Rattle.ledger.specs.declared.Row.{Row as DueRow}
 use Rattle.ledger.specs.Sorted.{In, insert, insertAll}
 use Rattle.ledger.specs.Board.{due, rowsOf}
 use Rattle.board.specs.Rules.{boardOf, boardOk}
 use Rattle.board.specs.Calls as calls
 use Rattle.judgement.specs.Judged.{judgedOf}
-use Rattle.convert.specs.Convert.{convertOf}
 use Rattle.offers.specs.Records.{recordsOf}
 use Rattle.offers.specs.Offer.{Offering, offerOf}
+use Rattle.demands.specs.Calls.{conversion, offering, handing, listing, reading, writing, written}
 use Rattle.demands.specs.Numbers.{Row, lowestIn, noneApplies, said, messageRows, headerRows, conversionRows, offerRows, isNone, unaired, handOutRows, listRows, readRows, writeRows}
 use Rattle.demands.proofs.Numbers.{held, at-pick, positive, lowest-append, none-lowest, judged-number, convert-number}
 
@@ -56,15 +58,15 @@ numbered n rs p e =
 
 -- ---- the calls
 
-pub convert-numbered : (s station : List ℕ) (header text uri : ℕ) → Numbered (convertOf s station header text uri .number) (conversionRows s station header text uri)
+pub convert-numbered : (s station : List ℕ) (header text uri : ℕ) → Numbered (conversion s station header text uri .number) (conversionRows s station header text uri)
 unfolding every
 convert-numbered s station header text uri = numbered _ (conversionRows s station header text uri) refl (convert-number s station header text uri)
 
-pub read-numbered : (s : List ℕ) → Numbered (readOf s .number) (readRows s)
+pub read-numbered : (s : List ℕ) → Numbered (reading s .number) (readRows s)
 unfolding every readOf lowestIn
 read-numbered s = numbered _ (readRows s) refl (at-pick (λ (r : Read). r .number) (headerForm s) _ _ ∙ held (headerForm s) 17 0 [] refl)
 
-pub write-numbered : (d : List ℕ) (p : Parts) → Numbered (writeOf d p .number) (writeRows (length d) p)
+pub write-numbered : (d : List ℕ) (p : Parts) → Numbered (writing d p .number) (writeRows (length d) p)
 unfolding every writeOf writeNumber lowestIn
 write-numbered d p =
     numbered _ (writeRows (length d) p) refl
@@ -100,7 +102,7 @@ module _ (b s : List ℕ) where
   offer-number false e = rw e
   offer-number true e = kept-number e
 
-  pub offer-numbered : Numbered (offerOf b s .answer .number) (offerRows b s)
+  pub offer-numbered : Numbered (offering b s .answer .number) (offerRows b s)
   unfolding every full
   offer-numbered = numbered _ (offerRows b s) refl (offer-number (boardOk b) refl)
 
@@ -110,30 +112,29 @@ module _ (b : List ℕ) where
   hand-number [] = refl
   hand-number (h ∷ hs) = at-pick (λ (o : calls.Handing). o .answer .number) (leb (length (insert (aired h) (boardOf b)) * 384) (length b)) _ _ ∙ held (leb (length (insert (aired h) (boardOf b)) * 384) (length b)) 15 0 [] refl
 
-  pub hand-out-numbered : Numbered (calls.handOf b .answer .number) (handOutRows b)
+  pub hand-out-numbered : Numbered (handing b .answer .number) (handOutRows b)
   unfolding every calls.handOf
   hand-out-numbered =
       numbered _ (handOutRows b) refl
       (at-pick (λ (o : calls.Handing). o .answer .number) (boardOk b) _ _ ∙ held (boardOk b) 1 _ (drop 1 (handOutRows b)) (hand-number (due (boardOf b))))
 
-  pub list-numbered : (m : ℕ) → Numbered (calls.listOf b m .answer .number) (listRows b m)
+  pub list-numbered : (m : ℕ) → Numbered (listing b m .answer .number) (listRows b m)
   unfolding every calls.listOf lowestIn
   list-numbered m =
       let rows = rowsOf (boardOf b) in
       numbered _ (listRows b m) refl
       (at-pick (λ (o : calls.Listing). o .answer .number) (boardOk b) _ _
       ∙ held (boardOk b) 1 _ (drop 1 (listRows b m))
-      (at-pick (λ (o : calls.Listing). o .answer .number) (leb (length rows) (m / 2)) _ _ ∙ held (leb (length rows) (m / 2)) 2 0 [] refl))
+      (at-pick (λ (o : calls.Listing). o .answer .number) (leb (length rows) m) _ _ ∙ held (leb (length rows) m) 2 0 [] refl))
 
 -- ---- a refusal changes nothing
 
 stays : {A : Type 0} (P : A → Type 0) (b : Bool) (x y : A) → P x → P y → P (pick b x y)
-stays P true x y h k = h
-stays P false x y h k = k
+stays P b x y h k = either-way P b x y (λ e. h) (λ e. k)
 
-pub offer-refused : (b s : List ℕ) → (offerOf b s .answer .number ≡ 0 → ⊥) → offerOf b s .bytes ≡ b
+offer-unchanged : (b s : List ℕ) → (offerOf b s .answer .number ≡ 0 → ⊥) → offerOf b s .bytes ≡ b
 unfolding offerOf calls.offerOf
-offer-refused b s =
+offer-unchanged b s =
     let P : Offering → Type 0 = λ (o : Offering). (o .answer .number ≡ 0 → ⊥) → o .bytes ≡ b in
     stays P (boardOk b) _ _ (stays P (eqb (judgedOf s .number) 0) _ _ (records-refused b (recordsOf s)) (λ n. refl)) (λ n. refl)
   where
@@ -142,7 +143,10 @@ offer-refused b s =
         let P : calls.Offering → Type 0 = λ (o : calls.Offering). (o .answer .number ≡ 0 → ⊥) → o .bytes ≡ b in
         stays P (boardOk b) _ _ (stays P (leb (length (insertAll rs (boardOf b)) * 384) (length b)) _ _ (λ n. absurd (n refl)) (λ n. refl)) (λ n. refl)
 
-pub hand-out-refused : (b : List ℕ) → (calls.handOf b .answer .number ≡ 0 → ⊥) → calls.handOf b .bytes ≡ b
+pub offer-refused : (b s : List ℕ) → (offering b s .answer .number ≡ 0 → ⊥) → offering b s .bytes ≡ b
+offer-refused b s n = cc (offer-unchanged b s n)
+
+pub hand-out-refused : (b : List ℕ) → (handing b .answer .number ≡ 0 → ⊥) → handing b .bytes ≡ b
 unfolding calls.handOf
 hand-out-refused b =
     let P : calls.Handing → Type 0 = λ (o : calls.Handing). (o .answer .number ≡ 0 → ⊥) → o .bytes ≡ b in
@@ -152,12 +156,12 @@ hand-out-refused b =
     go [] n = refl
     go (h ∷ hs) n = stays (λ (o : calls.Handing). (o .answer .number ≡ 0 → ⊥) → o .bytes ≡ b) (leb (length (insert (aired h) (boardOf b)) * 384) (length b)) _ _ (λ n. absurd (n refl)) (λ n. refl) n
 
-pub list-refused : (b : List ℕ) (m : ℕ) → (calls.listOf b m .answer .number ≡ 0 → ⊥) → (rows : List ℕ) → sets rows 0 (calls.numbers (calls.listOf b m .rows)) ≡ rows
+pub list-refused : (b : List ℕ) (m : ℕ) → (listing b m .answer .number ≡ 0 → ⊥) → (rows : List DueRow) → sets rows 0 (listing b m .rows) ≡ rows
 unfolding calls.listOf
 list-refused b m n rows =
-    let P : calls.Listing → Type 0 = λ (o : calls.Listing). (o .answer .number ≡ 0 → ⊥) → sets rows 0 (calls.numbers (o .rows)) ≡ rows in
-    stays P (boardOk b) _ _ (stays P (leb (length (rowsOf (boardOf b))) (m / 2)) _ _ (λ n. absurd (n refl)) (λ n. refl)) (λ n. refl) n
+    let P : calls.Listing → Type 0 = λ (o : calls.Listing). (o .answer .number ≡ 0 → ⊥) → sets rows 0 (o .rows) ≡ rows in
+    stays P (boardOk b) _ _ (stays P (leb (length (rowsOf (boardOf b))) m) _ _ (λ n. absurd (n refl)) (λ n. refl)) (λ n. refl) n
 
-pub write-refused : (d : List ℕ) (p : Parts) → (writeOf d p .number ≡ 0 → ⊥) → writeBytes d p ≡ d
+pub write-refused : (d : List ℕ) (p : Parts) → (writing d p .number ≡ 0 → ⊥) → written d p ≡ d
 unfolding writeOf writeBytes
 write-refused d p n = rw (ne-eqb (writeNumber (length d) p) 0 n)

@@ -1,34 +1,38 @@
 -- Demand 3, on the bytes of boards and messages.
+--     added-is-growth     the count that an offer answers
 --     same-records        the same alerts, offered to two empty boards, each in its own order, each once or more: the filled records are equal
 --     due-exactly         what is then due
 --     in-order            hand-outs, while there is room, give each due header once, in byte order
 --     refused-hand-out    what happens to the rest
 --     never-twice         over any mixture of offers and hand-outs no header is handed out twice
-use Prim.Native.Nat.{ℕ, _+_, _*_, _≤_}
+use Prim.Native.Nat.{ℕ, zero, suc, _+_, _*_, _≤_}
 use mathlib.Core.Path.{_≡_, refl, sym, ap, _∙_, subst}
 use mathlib.Core.Logic.{inl, inr, ⊎-elim, _↔_}
 use mathlib.Core.Bool.{Bool, true, false}
 use mathlib.Core.List.{List, [], _∷_, _++_}
+use native.Mathlib.Nat.{add-zero}
 use borrow.Author.Tests.{eq-eqb, ne-eqb, eqb-true, eqb-false}
 use lib.Dec.{eqb}
 use lib.ListN.{length, take}
-use Rattle.octets.specs.Bytes.{pick, every}
-use Rattle.octets.proofs.Tests.{every-first, every-rest}
+use Rattle.octets.specs.Bytes.{pick}
 use Rattle.judgement.specs.Judged.{judgedOf}
 use Rattle.records.specs.Record.{recordOk}
 use Rattle.ledger.specs.Sorted.{In, Sorted}
 use Rattle.ledger.specs.Board.{due, Alert, records, Shaped, Carried, Once}
 use Rattle.ledger.specs.Board as ledger
+use Rattle.ledger.proofs.Sorts.{every-in}
 use Rattle.board.specs.Rules.{Records, boardOf, boardOk}
 use Rattle.board.specs.Calls as calls
-use Rattle.board.specs.Runs.{Empty, offersTo, AllTaken, AllRecords, givenBy, handsFrom, givenOver, CallRecords}
-use Rattle.board.proofs.Keeps.{Offer, offer-is, offer-keeps, Hand, hand-is, hand-out-keeps}
+use Rattle.board.specs.Runs.{Empty, offersTo, AllTaken, AllRecords, givenOver, CallRecords}
+use Rattle.board.specs.Runs as board
+use Rattle.board.proofs.Keeps.{Offer, offer-is, offer-keeps, offer-grows, Hand, hand-is, hand-out-keeps}
 use Rattle.board.proofs.Demand3 as bytes
 use Rattle.offers.specs.Records.{headerIn, alertBy, recordsOf}
 use Rattle.offers.specs.Offer.{Offering, given, offerOf}
 use Rattle.offers.proofs.Taken.{shaped, records-ok}
-use Rattle.offers.proofs.Offering.{offer-message, offer-zero}
-use Rattle.demands.specs.Boards.{afterOffers, NoneFull, Takes, identityOf, Names, CarriedBy, Call, offers, handsOut, handedOut}
+use Rattle.offers.proofs.Offering.{offer-board, offer-message, offer-zero}
+use Rattle.demands.specs.Calls.{offering, handing}
+use Rattle.demands.specs.Boards.{afterOffers, NoneFull, Takes, identityOf, Names, CarriedBy, givenBy, handsFrom, Call, offers, handsOut, handedOut}
 
 -- ---- the alerts of messages
 
@@ -62,19 +66,12 @@ into (x ∷ ms) m i t = go (eqb (judgedOf x .number) 0) refl (λ k. into ms m k 
     go true e f i = ⊎-elim (λ p. inl (ap (λ (y : List ℕ). alertBy y (judgedOf y)) p)) (λ k. inr (f k)) i
     go false e f i = ⊎-elim (λ p. absurd (eqb-false (judgedOf x .number) 0 e (subst Takes p t))) f i
 
-each-record : (l : List (List ℕ)) → every recordOk l ≡ true → Records l
-each-record [] h r i = absurd i
-each-record (x ∷ l) h r i = go (each-record l (every-rest recordOk x l h) r)
-  where
-    go : (In r l → recordOk r ≡ true) → recordOk r ≡ true
-    go f = ⊎-elim (λ p. subst (λ (y : List ℕ). recordOk y ≡ true) (sym p) (every-first recordOk x l h)) f i
-
 taken-records : (m : List ℕ) → Takes m → recordsOf m ≡ records (alertBy m (judgedOf m))
 unfolding recordsOf
 taken-records m t = rw (eq-eqb (judgedOf m .number) 0 t)
 
 alert-records : (m : List ℕ) → Takes m → Records (records (alertBy m (judgedOf m)))
-alert-records m t = subst Records (taken-records m t) (each-record (recordsOf m) (records-ok m))
+alert-records m t = subst Records (taken-records m t) (every-in recordOk (recordsOf m) (records-ok m))
 
 all-records : (ms : List (List ℕ)) → AllRecords (alertsOf ms)
 all-records ms a i = let f = from ms a i in subst (λ (x : Alert). Records (records x)) (sym (f .leaves)) (alert-records (f .message) (f .taken))
@@ -87,29 +84,45 @@ all-shaped ms a i = let f = from ms a i in subst Shaped (sym (f .leaves)) (shape
 taken-offer : (s m : List ℕ) → Takes m → offerOf s m ≡ given (calls.offerOf s (records (alertBy m (judgedOf m))))
 taken-offer s m t = offer-zero s m t ∙ ap (λ (rs : List (List ℕ)). given (calls.offerOf s rs)) (taken-records m t)
 
+-- after it the board has as many more filled records as it says
+abbrev Grown : List ℕ → Offering → Type 0
+Grown s o = length (boardOf (o .bytes)) ≡ length (boardOf s) + o .answer .added
+
+grows : (s m : List ℕ) → Grown s (offerOf s m)
+grows s m = go (boardOk s) refl (eqb (judgedOf m .number) 0) refl
+  where
+    go : (ok : Bool) → boardOk s ≡ ok → (t : Bool) → eqb (judgedOf m .number) 0 ≡ t → Grown s (offerOf s m)
+    go false ok t e = rw (offer-board s m ok) (sym (add-zero (length (boardOf s))))
+    go true ok false e = rw (offer-message s m ok (eqb-false (judgedOf m .number) 0 e)) (sym (add-zero (length (boardOf s))))
+    go true ok true e = let t = eqb-true (judgedOf m .number) 0 e in rw (taken-offer s m t) (offer-grows s (records (alertBy m (judgedOf m))) ok (alert-records m t))
+
+-- What an offer says was added is the growth in filled records.
+pub added-is-growth : (s m : List ℕ) → length (boardOf (offering s m .bytes)) ≡ length (boardOf s) + offering s m .answer .added
+added-is-growth s m = grows s m
+
 module _ (s m : List ℕ) (ok : boardOk s ≡ true) where
-  pub offer-keeps-rules : boardOk (offerOf s m .bytes) ≡ true
+  pub offer-keeps-rules : boardOk (offering s m .bytes) ≡ true
   offer-keeps-rules = go (eqb (judgedOf m .number) 0) refl
     where
-      go : (b : Bool) → eqb (judgedOf m .number) 0 ≡ b → boardOk (offerOf s m .bytes) ≡ true
+      go : (b : Bool) → eqb (judgedOf m .number) 0 ≡ b → boardOk (offering s m .bytes) ≡ true
       go true e = let t = eqb-true (judgedOf m .number) 0 e in rw (taken-offer s m t) (offer-keeps s (records (alertBy m (judgedOf m))) ok (alert-records m t))
       go false e = rw (offer-message s m ok (eqb-false (judgedOf m .number) 0 e)) ok
 
   -- A message is taken, its offer answering 0, exactly if none of 4 to 14 applies and there is room.
-  number-taken : Takes m → (offerOf s m .answer .number ≡ 15 → ⊥) → calls.offerOf s (records (alertBy m (judgedOf m))) .answer .number ≡ 0
+  number-taken : Takes m → (offering s m .answer .number ≡ 15 → ⊥) → calls.offerOf s (records (alertBy m (judgedOf m))) .answer .number ≡ 0
   number-taken t n = go (offer-is s (records (alertBy m (judgedOf m))) ok)
     where
       go : Offer s (records (alertBy m (judgedOf m))) → calls.offerOf s (records (alertBy m (judgedOf m))) .answer .number ≡ 0
       go (Offer.taken l e) = ap (λ (o : calls.Offering). o .answer .number) e
       go (Offer.full l e) = absurd (n (ap (λ (o : Offering). o .answer .number) (taken-offer s m t) ∙ ap (λ (o : calls.Offering). o .answer .number) e))
 
-  pub taken-exactly : (offerOf s m .answer .number ≡ 15 → ⊥) → (offerOf s m .answer .number ≡ 0) ↔ Takes m
+  pub taken-exactly : (offering s m .answer .number ≡ 15 → ⊥) → (offering s m .answer .number ≡ 0) ↔ Takes m
   taken-exactly n = (
     λ z. go (eqb (judgedOf m .number) 0) refl z,
     λ t. ap (λ (o : Offering). o .answer .number) (taken-offer s m t) ∙ number-taken t n,
   )
     where
-      go : (b : Bool) → eqb (judgedOf m .number) 0 ≡ b → offerOf s m .answer .number ≡ 0 → Takes m
+      go : (b : Bool) → eqb (judgedOf m .number) 0 ≡ b → offering s m .answer .number ≡ 0 → Takes m
       go true e z = eqb-true (judgedOf m .number) 0 e
       go false e z = sym (ap (λ (o : Offering). o .answer .number) (offer-message s m ok (eqb-false (judgedOf m .number) 0 e))) ∙ z
 
@@ -121,12 +134,12 @@ record Ran (ms : List (List ℕ)) (s : List ℕ) : Type 0 where
 
 runs : (ms : List (List ℕ)) (s : List ℕ) → boardOk s ≡ true → NoneFull ms s → Ran ms s
 runs [] s ok n = record { is = refl; taken = tt }
-runs (m ∷ ms) s ok n = go (eqb (judgedOf m .number) 0) refl (runs ms (offerOf s m .bytes) (offer-keeps-rules s m ok) (n .1))
+runs (m ∷ ms) s ok n = go (eqb (judgedOf m .number) 0) refl (runs ms (offering s m .bytes) (offer-keeps-rules s m ok) (n .1))
   where
     a : Alert
     a = alertBy m (judgedOf m)
 
-    go : (b : Bool) → eqb (judgedOf m .number) 0 ≡ b → Ran ms (offerOf s m .bytes) → Ran (m ∷ ms) s
+    go : (b : Bool) → eqb (judgedOf m .number) 0 ≡ b → Ran ms (offering s m .bytes) → Ran (m ∷ ms) s
     go true e r =
         let t = eqb-true (judgedOf m .number) 0 e in
         let same = ap (λ (o : Offering). o .bytes) (taken-offer s m t) in
@@ -143,7 +156,7 @@ runs (m ∷ ms) s ok n = go (eqb (judgedOf m .number) 0) refl (runs ms (offerOf 
 
 offers-keep : (ms : List (List ℕ)) (s : List ℕ) → boardOk s ≡ true → boardOk (afterOffers ms s) ≡ true
 offers-keep [] s ok = ok
-offers-keep (m ∷ ms) s ok = offers-keep ms (offerOf s m .bytes) (offer-keeps-rules s m ok)
+offers-keep (m ∷ ms) s ok = offers-keep ms (offering s m .bytes) (offer-keeps-rules s m ok)
 
 -- ---- sentence 1
 
@@ -222,13 +235,17 @@ due-exactly s e ms n h =
 -- Hand-outs, while there is room, then give each due header once, in byte order.
 pub in-order : (s : List ℕ) → Empty s → (ms : List (List ℕ)) (n : ℕ) → let b = afterOffers ms s in
     (length (boardOf b) + n) * 384 ≤ length b → (handsFrom n b ≡ take n (due (boardOf b))) × Sorted (due (boardOf b))
-in-order s e ms n room = bytes.in-order (afterOffers ms s) (offers-keep ms s (e .keeps)) n room
+in-order s e ms n room = let o = bytes.in-order (afterOffers ms s) (offers-keep ms s (e .keeps)) n room in (same n (afterOffers ms s) ∙ o .0, o .1)
+  where
+    same : (n : ℕ) (b : List ℕ) → handsFrom n b ≡ board.handsFrom n b
+    same zero b = refl
+    same (suc n) b = ap (λ (l : List (List ℕ)). givenBy b ++ l) (same n (handing b .bytes))
 
 -- A hand-out that is refused, for room or because nothing is due, gives nothing and changes nothing: what is left stays due.
-pub refused-hand-out : (s : List ℕ) → boardOk s ≡ true → (calls.handOf s .answer .number ≡ 0 → ⊥) → (givenBy s ≡ []) × (calls.handOf s .bytes ≡ s)
-refused-hand-out s ok n = (rw (ne-eqb (calls.handOf s .answer .number) 0 n), go (hand-is s ok))
+pub refused-hand-out : (s : List ℕ) → boardOk s ≡ true → (handing s .answer .number ≡ 0 → ⊥) → (givenBy s ≡ []) × (handing s .bytes ≡ s)
+refused-hand-out s ok n = (rw (ne-eqb (handing s .answer .number) 0 n), go (hand-is s ok))
   where
-    go : Hand s → calls.handOf s .bytes ≡ s
+    go : Hand s → handing s .bytes ≡ s
     go (Hand.nothing d e) = ap (λ (o : calls.Handing). o .bytes) e
     go (Hand.full h hs d l e) = ap (λ (o : calls.Handing). o .bytes) e
     go (Hand.given h hs d l e) = absurd (n (ap (λ (o : calls.Handing). o .answer .number) e))
@@ -251,11 +268,11 @@ call-records (offers m ∷ cs) = go (eqb (judgedOf m .number) 0) refl (call-reco
 
 handed-is : (cs : List Call) (s : List ℕ) → boardOk s ≡ true → handedOut cs s ≡ givenOver (callsOf cs) s
 handed-is [] s ok = refl
-handed-is (handsOut ∷ cs) s ok = ap (λ (l : List (List ℕ)). givenBy s ++ l) (handed-is cs (calls.handOf s .bytes) (hand-out-keeps s ok))
-handed-is (offers m ∷ cs) s ok = go (eqb (judgedOf m .number) 0) refl (handed-is cs (offerOf s m .bytes) (offer-keeps-rules s m ok))
+handed-is (handsOut ∷ cs) s ok = ap (λ (l : List (List ℕ)). givenBy s ++ l) (handed-is cs (handing s .bytes) (hand-out-keeps s ok))
+handed-is (offers m ∷ cs) s ok = go (eqb (judgedOf m .number) 0) refl (handed-is cs (offering s m .bytes) (offer-keeps-rules s m ok))
   where
-    go : (b : Bool) → eqb (judgedOf m .number) 0 ≡ b → handedOut cs (offerOf s m .bytes) ≡ givenOver (callsOf cs) (offerOf s m .bytes) →
-        handedOut cs (offerOf s m .bytes) ≡ givenOver (pick b (ledger.offered (alertBy m (judgedOf m)) ∷ callsOf cs) (callsOf cs)) s
+    go : (b : Bool) → eqb (judgedOf m .number) 0 ≡ b → handedOut cs (offering s m .bytes) ≡ givenOver (callsOf cs) (offering s m .bytes) →
+        handedOut cs (offering s m .bytes) ≡ givenOver (pick b (ledger.offered (alertBy m (judgedOf m)) ∷ callsOf cs) (callsOf cs)) s
     go true e h = h ∙ ap (λ (o : Offering). givenOver (callsOf cs) (o .bytes)) (taken-offer s m (eqb-true (judgedOf m .number) 0 e))
     go false e h = h ∙ ap (λ (o : Offering). givenOver (callsOf cs) (o .bytes)) (offer-message s m ok (eqb-false (judgedOf m .number) 0 e))
 

@@ -1,24 +1,27 @@
 -- Messages offered to one board, and hand-outs of it, one after the other. A message is its bytes, and so is a board.
-use Prim.Native.Nat.{ℕ}
+use Prim.Native.Nat.{ℕ, zero, suc}
 use mathlib.Core.Path.{_≡_}
 use mathlib.Core.Bool.{false}
 use mathlib.Core.List.{List, [], _∷_, _++_}
+use lib.Dec.{eqb}
+use lib.ListN.{getD}
+use Rattle.octets.specs.Bytes.{pick}
 use Rattle.judgement.specs.Judged.{judgedOf}
 use Rattle.ledger.specs.Sorted.{In}
-use Rattle.board.specs.Calls.{handOf}
-use Rattle.board.specs.Runs.{givenBy}
+use Rattle.ledger.specs.Board.{carried}
+use Rattle.board.specs.Rules.{boardOf}
 use Rattle.offers.specs.Records.{ownIn, headerIn, alertBy}
-use Rattle.offers.specs.Offer.{offerOf}
+use Rattle.demands.specs.Calls.{offering, handing}
 
 -- the board after offers
 abbrev pub afterOffers : List (List ℕ) → List ℕ → List ℕ
 afterOffers [] s = s
-afterOffers (m ∷ ms) s = afterOffers ms (offerOf s m .bytes)
+afterOffers (m ∷ ms) s = afterOffers ms (offering s m .bytes)
 
 -- no offer is refused for room
 abbrev pub NoneFull : List (List ℕ) → List ℕ → Type 0
 NoneFull [] s = Unit {0}
-NoneFull (m ∷ ms) s = (offerOf s m .answer .number ≡ 15 → ⊥) × NoneFull ms (offerOf s m .bytes)
+NoneFull (m ∷ ms) s = (offering s m .answer .number ≡ 15 → ⊥) × NoneFull ms (offering s m .bytes)
 
 -- a message that is taken wherever there is room: none of 4 to 14 applies
 abbrev pub Takes : List ℕ → Type 0
@@ -41,6 +44,17 @@ pub record CarriedBy (ms : List (List ℕ)) (h : List ℕ) : Type 0 where
   pub carries : headerIn (judgedOf by) ≡ h
   pub not-named : (m : List ℕ) → In m ms → Takes m → Names m (identityOf by) → ⊥
 
+-- ---- hand-outs
+
+-- the header that a hand-out gives: that of the notice at the index answered; none where it is refused
+abbrev pub givenBy : List ℕ → List (List ℕ)
+givenBy s = pick (eqb (handing s .answer .number) 0) (carried (getD (boardOf s) (handing s .answer .index) []) ∷ []) []
+
+-- what n hand-outs give
+abbrev pub handsFrom : ℕ → List ℕ → List (List ℕ)
+handsFrom zero s = []
+handsFrom (suc n) s = givenBy s ++ handsFrom n (handing s .bytes)
+
 -- ---- any mixture of offers and hand-outs
 
 pub data Call : Type 0 where
@@ -50,5 +64,5 @@ pub data Call : Type 0 where
 -- the headers that it hands out, in order
 abbrev pub handedOut : List Call → List ℕ → List (List ℕ)
 handedOut [] s = []
-handedOut (offers m ∷ cs) s = handedOut cs (offerOf s m .bytes)
-handedOut (handsOut ∷ cs) s = givenBy s ++ handedOut cs (handOf s .bytes)
+handedOut (offers m ∷ cs) s = handedOut cs (offering s m .bytes)
+handedOut (handsOut ∷ cs) s = givenBy s ++ handedOut cs (handing s .bytes)

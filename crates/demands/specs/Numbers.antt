@@ -1,5 +1,5 @@
 -- "Numbers returned": each number with the condition under which it applies. s is the message.
-use Prim.Native.Nat.{ℕ, _+_, _*_, _/_}
+use Prim.Native.Nat.{ℕ, _+_, _*_}
 use mathlib.Core.Bool.{Bool, true, false, _&&_, not}
 use mathlib.Core.List.{List, [], _∷_, _++_}
 use lib.ListN.{length}
@@ -125,13 +125,13 @@ handOutRows b =
     ∷ record { number = 15; applies = unaired b (due (boardOf b)) }
     ∷ []
 
--- ---- the list of a board b, with m numbers lent, two to a row, asks 1, 2
+-- ---- the list of a board b, with m rows lent, asks 1, 2
 
 -- 2 rows below the due count
 abbrev pub listRows : List ℕ → ℕ → List Row
 listRows b m =
     record { number = 1; applies = not (boardOk b) }
-    ∷ record { number = 2; applies = not (leb (length (rowsOf (boardOf b))) (m / 2)) }
+    ∷ record { number = 2; applies = not (leb (length (rowsOf (boardOf b))) m) }
     ∷ []
 
 -- ---- a header

@@ -1,19 +1,20 @@
 -- Groups: their tests, that they have 155 bytes at most, and their parts by the places of their commas.
---     group-no, group-is, group-long                a test that fails, all of them holding, and a run that is too long
+--     group-no, time-decides, group-long            a test that fails, what the last one says, and a run that is too long
 --     no-first, no-second                           a comma that is missing
 --     Parted: parted, sender-as, identifier-as, sent-as     both commas are there, and each part is judged as the run between them
 use Prim.Native.Nat.{ℕ, _+_, _-_, _≤_, _<_}
-use mathlib.Core.Path.{_≡_, refl, sym, ap, _∙_}
+use mathlib.Core.Path.{_≡_, sym, ap, _∙_}
 use mathlib.Core.Bool.{Bool, true, false}
 use mathlib.Core.List.{List, [], _∷_}
 use native.Mathlib.Omega.{arith}
 use lib.ListN.{length, take, drop, getD, length-drop, drop-of-length-le}
 use lib.Seq.{take-all, drop-drop}
-use Rattle.octets.proofs.Tests.{each-of, every-of, one-fails, below-between}
-use Rattle.clock.specs.Time.{timeOf}
+use Rattle.octets.proofs.Tests.{never, each-of, one-fails, below-between}
+use Rattle.octets.proofs.Everys.{last-decides}
+use Rattle.clock.specs.Time.{timeOf, isTime}
 use Rattle.clock.specs.declared.Time.{Time}
 use Rattle.fields.specs.Fields.{identityOk}
-use Rattle.fields.specs.References.{upTo, behind, senderOf, identifierOf, sentOf, isTime, groupOk}
+use Rattle.fields.specs.References.{upTo, behind, senderOf, identifierOf, sentOf, groupOk}
 use Rattle.fields.proofs.Partings.{upTo-none, upTo-take, upTo-short, behind-drop, parts-long}
 use Rattle.fields.proofs.Identities.{identity-no, identity-short, time-not, time-short}
 
@@ -24,9 +25,9 @@ pub group-no : (i : ℕ) (w : List ℕ) → getD (groupTests w) i true ≡ false
 unfolding groupOk
 group-no i w h = one-fails i (groupTests w) h
 
-pub group-is : (w : List ℕ) → identityOk (senderOf w) ≡ true → identityOk (identifierOf w) ≡ true → isTime (timeOf (sentOf w)) ≡ true → groupOk w ≡ true
+pub time-decides : (w : List ℕ) → identityOk (senderOf w) ≡ true → identityOk (identifierOf w) ≡ true → groupOk w ≡ isTime (timeOf (sentOf w))
 unfolding groupOk
-group-is w a b d = every-of (groupTests w) (a, (b, (d, tt)))
+time-decides w a b = last-decides (identityOk (senderOf w) ∷ identityOk (identifierOf w) ∷ []) (isTime (timeOf (sentOf w))) (a, (b, tt))
 
 group-short : (w : List ℕ) → groupOk w ≡ true → length w ≤ 155
 unfolding groupOk
@@ -35,11 +36,7 @@ group-short w h =
     omega (arith, parts-long 44 w, parts-long 44 (behind 44 w), identity-short (senderOf w) (e .0), identity-short (identifierOf w) (e .1 .0), time-short (sentOf w) (e .1 .1 .0))
 
 pub group-long : (w : List ℕ) (n : ℕ) → n ≡ length w → 155 < n → groupOk w ≡ false
-group-long w n q l = go (groupOk w) refl
-  where
-    go : (b : Bool) → groupOk w ≡ b → b ≡ false
-    go true e = absurd (omega (arith, group-short w e))
-    go false e = refl
+group-long w n q l = never (groupOk w) (λ e. omega (arith, group-short w e))
 
 -- ---- a group by the places of its commas: a is where the first stands, b where the second does
 
@@ -101,5 +98,5 @@ module _ {t : List ℕ} {a b : ℕ} (g : Parted t a b) where
   pub identifier-as : {r : Bool} → r ≡ identityOk (take (b - (a + 1)) (drop (a + 1) t)) → identityOk (identifierOf t) ≡ r
   identifier-as e = sym (e ∙ ap identityOk (g .identifier))
 
-  pub sent-as : {x y : Time} → x ≡ timeOf (take (length t - (b + 1)) (drop (b + 1) t)) → x ≡ y → isTime (timeOf (sentOf t)) ≡ isTime y
-  sent-as e h = ap isTime (sym (e ∙ ap timeOf (g .sent)) ∙ h)
+  pub sent-as : {x : Time} {r : Bool} → x ≡ timeOf (take (length t - (b + 1)) (drop (b + 1) t)) → r ≡ isTime x → isTime (timeOf (sentOf t)) ≡ r
+  sent-as e h = sym (h ∙ ap isTime (e ∙ ap timeOf (g .sent)))

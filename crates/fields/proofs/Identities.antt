@@ -13,11 +13,10 @@ use lib.ListN.{length, take, drop, getD, drop-of-length-le}
 use Rattle.octets.specs.Bytes.{every, between}
 use Rattle.octets.proofs.Parts.{tail-step}
 use Rattle.octets.proofs.Tests.{each-of, every-of, one-fails, every-step, every-stop, every-none, between-high, between-is, above-between}
-use Rattle.clock.specs.Time.{timeOf}
+use Rattle.clock.specs.Time.{timeOf, isTime}
 use Rattle.clock.specs.declared.Time.{Time}
 use Rattle.clock.proofs.Times.{time-no}
 use Rattle.fields.specs.Fields.{isIdentity, identityOk}
-use Rattle.fields.specs.References.{isTime}
 use Rattle.fields.proofs.Buffers.{cut}
 
 -- ---- identities

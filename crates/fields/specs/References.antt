@@ -1,13 +1,11 @@
 -- References: 1 to 16 groups `sender,identifier,sent` parted by space.
 use Prim.Native.Nat.{ℕ}
-use mathlib.Core.Bool.{Bool, true, false}
+use mathlib.Core.Bool.{Bool}
 use mathlib.Core.List.{List, [], _∷_}
 use lib.ListN.{length}
 use lib.Dec.{eqb}
 use Rattle.octets.specs.Bytes.{pick, every, holds, between}
-use Rattle.clock.specs.Time.{timeOf}
-use Rattle.clock.specs.declared.Time.{Time}
-use Rattle.clock.specs.declared.Time.the-variants.{At}
+use Rattle.clock.specs.Time.{timeOf, isTime}
 use Rattle.fields.specs.Fields.{identityOk}
 
 -- what stands before the first c; all where there is none
@@ -30,10 +28,6 @@ identifierOf w = upTo 44 (behind 44 w)
 
 abbrev pub sentOf : List ℕ → List ℕ
 sentOf w = behind 44 (behind 44 w)
-
-abbrev pub isTime : Time → Bool
-isTime (At n) = true
-isTime Time.Bad = false
 
 unfoldable pub groupOk : List ℕ → Bool
 groupOk w = every holds (identityOk (senderOf w) ∷ identityOk (identifierOf w) ∷ isTime (timeOf (sentOf w)) ∷ [])

@@ -4,16 +4,11 @@ use mathlib.Core.List.{List}
 use lib.ListN.{length}
 use lib.Dec.{eqb}
 use Rattle.octets.specs.Bytes.{pick, oneOf}
-use Rattle.values.specs.Chars.{textAt}
-use Rattle.values.specs.Value.{runs, stepAt}
+use Rattle.values.specs.Value.{restAt, stepAt}
 use Rattle.values.specs.declared.Got.{Got}
 use Rattle.values.specs.declared.Got.the-variants.{Is, Done}
 use Rattle.fields.specs.References.{upTo}
 use Rattle.fields.specs.declared.Word.{Word}
-
--- what is left of a value from a place in it
-abbrev pub restAt : List ℕ → ℕ → List ℕ
-restAt s i = runs (textAt s i)
 
 -- the word that begins there
 abbrev pub wordIn : List ℕ → ℕ → List ℕ

@@ -168,10 +168,7 @@ pub fn is_group(t: &[u8]) -> bool
         return false;
     }
     let sent = clock::instant(&t[b + 1..]);
-    match sent {
-        Time::At(_) => true,
-        Time::Bad => false,
-    }
+    clock::is_time(sent)
 }
 
 // ---- references: groups parted by space

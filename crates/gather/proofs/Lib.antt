@@ -1,2 +1,5 @@
+pub mod Leaves
+pub mod Infos
+pub mod Selects
 pub mod Gathers
 pub mod Passes

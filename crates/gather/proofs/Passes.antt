@@ -1,12 +1,9 @@
--- The pass over the message reads the tree: the loop of `content`, and `element` on each of its ways.
-use Prim.Native.Nat.{ℕ, suc, _+_, _<_, _≤_}
+-- The pass over the message reads the tree: the loop of `read_content`, and `read_element` on each of its ways.
+use Prim.Native.Nat.{ℕ, suc, _+_}
 use mathlib.Core.Path.{_≡_, refl, sym, ap, _∙_}
 use mathlib.Core.List.{List}
-use native.Mathlib.Omega.{arith}
 use lib.ListN.{length}
-use lib.Dec.{eqb}
 use borrow.Author.Tests.{eq-eqb}
-use Rattle.octets.specs.Bytes.{pick}
 use Rattle.pieces.specs.Pieces.{pieceAt}
 use Rattle.pieces.specs.declared.End.{End}
 use Rattle.pieces.specs.declared.End.the-variants.{At, No}
@@ -16,7 +13,7 @@ use Rattle.pieces.proofs.Words.{differ, at-is}
 use Rattle.tags.specs.Tags.{openAt, closeAt}
 use Rattle.tags.specs.declared.Open.the-variants.{Full, Empty, Shut}
 use Rattle.markup.specs.Tree.{Tag, Forest, nil, text, elem, One, one, none, Held, held, bad, put, elemAt, contentAt}
-use Rattle.markup.proofs.Goes.{OneGoes, HeldGoes, elem-goes, content-goes}
+use Rattle.markup.proofs.Goes.{OneGoes, elem-goes}
 use Rattle.markup.proofs.Elements.{elem-deep, elem-shut, elem-empty, elem-bad, elem-open, elem-full}
 use Rattle.markup.proofs.Reading.{Reading, reading-starts, reading-text, reading-note, reading-child, reading-close, reading-bad, reading-none}
 use Rattle.reads.specs.declared.Context.{Context}
@@ -24,7 +21,14 @@ use Rattle.reads.specs.declared.State.{State}
 use Rattle.reads.specs.Names.{contextOf}
 use Rattle.gather.specs.declared.Touch.the-variants.{Holds}
 use Rattle.gather.specs.declared.Got.{Got}
-use Rattle.gather.specs.Visit.{touchIn, left, placeOf, visit, refused, finished, gotOne, gotHeld}
+use Rattle.gather.specs.Visit.{touchIn, left, placeOf, visit, refused, settled, finished, gotOne, gotHeld}
+
+-- an answer with an end counts as it stands, and one without is a refusal
+pub settled-at : (n : ℕ) (r : Got) (j : ℕ) → r .end ≡ At j → settled n r ≡ r
+settled-at n r j q = rw q
+
+pub settled-no : (n : ℕ) (r : Got) → r .end ≡ No → settled n r ≡ refused n
+settled-no n r q = rw q
 
 module _ (s p : List ℕ) (c : Context) where
   -- what an element adds, and what text does
@@ -67,11 +71,14 @@ module _ (s p : List ℕ) (c : Context) where
       unfolding gotHeld
       passing-bad e w = reading-bad (gotHeld s p c) skips adds got-text got-elem s d at st₀ i st e w
 
-      -- a child, as `element` answers it
-      module _ (r : Got) (got : r ≡ gotOne s p c st (elemAt s d i)) where
+      -- a child, as `read_element` answers it
+      module _ (r : Got) (told : settled (length s) r ≡ gotOne s p c st (elemAt s d i)) where
+        got : (j : ℕ) → r .end ≡ At j → r ≡ gotOne s p c st (elemAt s d i)
+        got j q = sym (settled-at (length s) r j q) ∙ told
+
         pub child-goes : (j : ℕ) → r .end ≡ At j → Goes s i j
         unfolding gotOne
-        child-goes j q = go (elemAt s d i) (elem-goes s d i) (ap (λ (x : Got). x .end) (sym got) ∙ q)
+        child-goes j q = go (elemAt s d i) (elem-goes s d i) (ap (λ (x : Got). x .end) (sym (got j q)) ∙ q)
           where
             go : (o : One) → OneGoes s i o → gotOne s p c st o .end ≡ At j → Goes s i j
             go (one x kids k) g e = rw (at-is e) at g
@@ -79,7 +86,7 @@ module _ (s p : List ℕ) (c : Context) where
 
         pub passing-child : (j : ℕ) → pieceAt s i ≡ Child → r .end ≡ At j → Passing d at st₀ i st → Passing d at st₀ j (r .state)
         unfolding gotOne
-        passing-child j e q w = rw got (go (elemAt s d i) refl (ap (λ (x : Got). x .end) (sym got) ∙ q))
+        passing-child j e q w = rw (got j q) (go (elemAt s d i) refl (ap (λ (x : Got). x .end) (sym (got j q)) ∙ q))
           where
             go : (o : One) → elemAt s d i ≡ o → gotOne s p c st o .end ≡ At j → Passing d at st₀ j (gotOne s p c st o .state)
             go (one x kids k) u y = reading-child (gotHeld s p c) skips adds got-text got-elem s d at st₀ i st j x kids e (u ∙ ap (one x kids) (at-is y)) w
@@ -87,13 +94,13 @@ module _ (s p : List ℕ) (c : Context) where
 
         pub passing-none : pieceAt s i ≡ Child → r .end ≡ No → Passing d at st₀ i st → refused (length s) ≡ gotHeld s p c st₀ (contentAt s d at)
         unfolding gotOne gotHeld
-        passing-none e q w = go (elemAt s d i) refl (ap (λ (x : Got). x .end) (sym got) ∙ q)
+        passing-none e q w = go (elemAt s d i) refl (ap (λ (x : Got). x .end) (sym told ∙ settled-no (length s) r q))
           where
             go : (o : One) → elemAt s d i ≡ o → gotOne s p c st o .end ≡ No → refused (length s) ≡ gotHeld s p c st₀ (contentAt s d at)
             go (one x kids k) u y = absurd (differ (sym y))
             go none u y = reading-none (gotHeld s p c) skips adds got-text got-elem s d at st₀ i st e u w
 
--- `element`: its answer on each way, at d levels, which are one more than b
+-- `read_element`: its answer on each way, at d levels, which are one more than b
 module _ (s p : List ℕ) (c : Context) (st : State) (d i : ℕ) where
   -- the context inside
   abbrev pub inner : ℕ → Context
@@ -119,10 +126,10 @@ module _ (s p : List ℕ) (c : Context) (st : State) (d i : ℕ) where
     unfolding gotOne visit
     one-empty a j e = rw (elem-empty s d b i up a j e, same-place j)
 
-    module _ (a j : ℕ) (e : openAt s i ≡ Full a j) (r : Got) (got : r ≡ gotHeld s p (inner a) (touchIn Holds c st) (contentAt s b j)) where
+    module _ (a j : ℕ) (e : openAt s i ≡ Full a j) (r : Got) (told : settled (length s) r ≡ gotHeld s p (inner a) (touchIn Holds c st) (contentAt s b j)) where
       pub one-bad : r .end ≡ No → refused (length s) ≡ gotOne s p c st (elemAt s d i)
       unfolding gotHeld
-      one-bad q = go (contentAt s b j) refl (ap (λ (x : Got). x .end) (sym got) ∙ q)
+      one-bad q = go (contentAt s b j) refl (ap (λ (x : Got). x .end) (sym told ∙ settled-no (length s) r q))
         where
           go : (h : Held) → contentAt s b j ≡ h → gotHeld s p (inner a) (touchIn Holds c st) h .end ≡ No → refused (length s) ≡ gotOne s p c st (elemAt s d i)
           go (held t k) u y = absurd (differ (sym y))
@@ -130,7 +137,7 @@ module _ (s p : List ℕ) (c : Context) (st : State) (d i : ℕ) where
 
       pub one-close : (k : ℕ) → r .end ≡ At k → finished (length s) (closeAt s i a k) (left s (inner a) (placeOf s j k) (r .state)) ≡ gotOne s p c st (elemAt s d i)
       unfolding gotHeld finished gotOne visit
-      one-close k q = rw got (go (contentAt s b j) refl (ap (λ (x : Got). x .end) (sym got) ∙ q))
+      one-close k q = let got = sym (settled-at (length s) r k q) ∙ told in rw got (go (contentAt s b j) refl (ap (λ (x : Got). x .end) (sym got) ∙ q))
         where
           tip : (t : Forest) → contentAt s b j ≡ held t k → (x : End) → closeAt s i a k ≡ x
               → finished (length s) x (left s (inner a) (placeOf s j k) (visit s p (inner a) (touchIn Holds c st) t)) ≡ gotOne s p c st (elemAt s d i)
@@ -141,11 +148,3 @@ module _ (s p : List ℕ) (c : Context) (st : State) (d i : ℕ) where
               → finished (length s) (closeAt s i a k) (left s (inner a) (placeOf s j k) (gotHeld s p (inner a) (touchIn Holds c st) h .state)) ≡ gotOne s p c st (elemAt s d i)
           go (held t x) u y = tip t (u ∙ ap (held t) (at-is y)) (closeAt s i a k) refl
           go bad u y = absurd (differ y)
-
-      pub got-in : (k : ℕ) → r .end ≡ At k → k < length s
-      unfolding gotHeld
-      got-in k q = go (contentAt s b j) (content-goes s b j) (ap (λ (x : Got). x .end) (sym got) ∙ q)
-        where
-          go : (h : Held) → HeldGoes s j h → gotHeld s p (inner a) (touchIn Holds c st) h .end ≡ At k → k < length s
-          go (held t x) g y = rw (at-is y) at (g .1)
-          go bad g y = absurd (differ y)

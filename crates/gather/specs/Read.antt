@@ -2,7 +2,7 @@
 use Prim.Native.Nat.{ℕ, _+_}
 use Prim.Native.String.{String}
 use mathlib.Core.Bool.{Bool, true, false, not}
-use mathlib.Core.List.{List, [], _∷_, _++_, foldl}
+use mathlib.Core.List.{List, [], _∷_, foldl}
 use lib.ListN.{length}
 use Rattle.octets.specs.Bytes.{pick, every, same}
 use Rattle.octets.specs.Text.{bytes}

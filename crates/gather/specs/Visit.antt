@@ -1,6 +1,5 @@
 -- The pass over the tree: what is gathered of it, element by element.
 use Prim.Native.Nat.{ℕ, _+_}
-use mathlib.Core.Bool.{Bool, true, false}
 use mathlib.Core.List.{List, [], _∷_}
 use lib.ListN.{length, getD, set}
 use lib.Dec.{eqb, ltb}
@@ -125,6 +124,14 @@ visit s p c st (elem g kids rest) =
 
 abbrev pub refused : ℕ → Got
 refused n = record { end = No; state = fresh n }
+
+-- an answer as it counts: what does not end has gathered nothing, whatever state is handed back
+abbrev pub settledAs : ℕ → End → Got → Got
+settledAs n (At e) r = r
+settledAs n No r = refused n
+
+abbrev pub settled : ℕ → Got → Got
+settled n r = settledAs n (r .end) r
 
 unfoldable pub finished : ℕ → End → State → Got
 finished n (At e) st = record { end = At e; state = st }

@@ -12,7 +12,7 @@ ghost use Prim.Native.Nat.{_+_, _≤_, _<_};
 ghost use lib.ListN.{length};
 ghost use Rattle.tags.specs.Tags.{closeAt};
 ghost use Rattle.markup.specs.Tree.{elemAt, contentAt};
-ghost use Rattle.gather.specs.Visit.{touched, touchAlert, touchInfo, touchPair, touchIn, pairAdded, pairLeft, infoLeft, laterLeft, left, placeOf, refused, finished, gotOne, gotHeld};
+ghost use Rattle.gather.specs.Visit.{touched, touchAlert, touchInfo, touchPair, touchIn, pairAdded, pairLeft, infoLeft, laterLeft, left, placeOf, refused, settled, finished, gotOne, gotHeld};
 
 // What is learnt of a leaf: that it holds an element, or that one more stands, whose value begins at a place.
 pub enum Touch {
@@ -20,6 +20,7 @@ pub enum Touch {
     Stands(usize),
 }
 
+// Where what is read ends, and what is gathered with it.
 pub struct Got {
     pub end: End,
     pub state: State,
@@ -218,12 +219,12 @@ fn leave(s: &[u8], k: Context, at: usize, st: State) -> State
     }
 }
 
-// ---- the pass
+// ---- the pass. Where there is no end, a state at hand is handed back: a fresh one would be written field by field wherever reading can fail.
 
 // The end of an element that held what stands from b to e.
 fn finish(s: &[u8], at: usize, a: usize, b: usize, e: usize, k: Context, st: State) -> Got
     requires { ⌜ (at + 1 < a) × (a ≤ length (now s)) ⌝ }
-    ensures { λ r. ⌜ r ≡ finished (length (now (s .entry))) (closeAt (now (s .entry)) at a e) (left (now (s .entry)) k (placeOf (now (s .entry)) b e) st) ⌝ }
+    ensures { λ r. ⌜ settled (length (now (s .entry))) r ≡ finished (length (now (s .entry))) (closeAt (now (s .entry)) at a e) (left (now (s .entry)) k (placeOf (now (s .entry)) b e) st) ⌝ }
 {
     let z = tags::close_tag(s, at, a, e);
     match z {
@@ -234,7 +235,10 @@ fn finish(s: &[u8], at: usize, a: usize, b: usize, e: usize, k: Context, st: Sta
                 state: leave(s, k, v, st),
             }
         }
-        End::No => refuse(s.len()),
+        End::No => Got {
+            end: End::No,
+            state: st,
+        },
     }
 }
 
@@ -249,15 +253,21 @@ fn place(s: &[u8], b: usize, e: usize) -> usize
 }
 
 // The element at `at`, in the context c, under the root's prefix p: where it ends, and what is gathered with it.
-pub fn element(s: &[u8], p: &[u8], at: usize, depth: usize, c: Context, st: State) -> Got
-    ensures { λ r. ⌜ r ≡ gotOne (now (s .entry)) (now (p .entry)) c st (elemAt (now (s .entry)) depth at) ⌝ }
+fn read_element(s: &[u8], p: &[u8], at: usize, depth: usize, c: Context, st: State) -> Got
+    ensures { λ r. ⌜ settled (length (now (s .entry))) r ≡ gotOne (now (s .entry)) (now (p .entry)) c st (elemAt (now (s .entry)) depth at) ⌝ }
 {
     if depth == 0 {
-        return refuse(s.len());
+        return Got {
+            end: End::No,
+            state: st,
+        };
     }
     let o = tags::open_tag(s, at);
     match o {
-        Open::Shut => refuse(s.len()),
+        Open::Shut => Got {
+            end: End::No,
+            state: st,
+        },
         Open::Empty(a, j) => {
             let k = reads::context_of(s, p, at + 1, a, c, st.alert.kept);
             let t = touch_leaf(c, Touch::Holds, st);
@@ -269,29 +279,35 @@ pub fn element(s: &[u8], p: &[u8], at: usize, depth: usize, c: Context, st: Stat
         Open::Full(a, j) => {
             let k = reads::context_of(s, p, at + 1, a, c, st.alert.kept);
             let t = touch_leaf(c, Touch::Holds, st);
-            let g = content(s, p, j, depth - 1, k, t);
+            let g = read_content(s, p, j, depth - 1, k, t);
             let e = g.end;
             match e {
                 End::At(q) => {
                     let u = g.state;
                     finish(s, at, a, j, q, k, u)
                 }
-                End::No => refuse(s.len()),
+                End::No => Got {
+                    end: End::No,
+                    state: st,
+                },
             }
         }
     }
 }
 
 // What an element holds that begins at `at`, in its context c.
-pub fn content(s: &[u8], p: &[u8], at: usize, depth: usize, c: Context, st: State) -> Got
-    ensures { λ r. ⌜ r ≡ gotHeld (now (s .entry)) (now (p .entry)) c st (contentAt (now (s .entry)) depth at) ⌝ }
+fn read_content(s: &[u8], p: &[u8], at: usize, depth: usize, c: Context, st: State) -> Got
+    ensures { λ r. ⌜ settled (length (now (s .entry))) r ≡ gotHeld (now (s .entry)) (now (p .entry)) c st (contentAt (now (s .entry)) depth at) ⌝ }
 {
     let mut i = at;
     let mut t = st;
     loop {
         let x = pieces::next_piece(s, i);
         match x {
-            Piece::Bad => return refuse(s.len()),
+            Piece::Bad => return Got {
+                end: End::No,
+                state: st,
+            },
             Piece::Close => return Got {
                 end: End::At(i),
                 state: t,
@@ -299,16 +315,31 @@ pub fn content(s: &[u8], p: &[u8], at: usize, depth: usize, c: Context, st: Stat
             Piece::Text(j) => i = j,
             Piece::Note(j) => i = j,
             Piece::Child => {
-                let g = element(s, p, i, depth, c, t);
+                let g = read_element(s, p, i, depth, c, t);
                 let e = g.end;
                 match e {
                     End::At(j) => {
                         i = j;
                         t = g.state;
                     }
-                    End::No => return refuse(s.len()),
+                    End::No => return Got {
+                        end: End::No,
+                        state: st,
+                    },
                 }
             }
         }
+    }
+}
+
+// The element at `at`, as `read_element` answers it; where it does not end, nothing is gathered.
+pub fn element(s: &[u8], p: &[u8], at: usize, depth: usize, c: Context, st: State) -> Got
+    ensures { λ r. ⌜ r ≡ gotOne (now (s .entry)) (now (p .entry)) c st (elemAt (now (s .entry)) depth at) ⌝ }
+{
+    let g = read_element(s, p, at, depth, c, st);
+    let e = g.end;
+    match e {
+        End::At(_) => g,
+        End::No => refuse(s.len()),
     }
 }

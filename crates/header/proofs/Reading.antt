@@ -13,7 +13,7 @@ use Rattle.header.specs.declared.BodyRead.{BodyRead}
 use Rattle.header.specs.declared.Read.{Read}
 use Rattle.header.specs.declared.Time.the-variants.{At, No}
 use Rattle.octets.proofs.Numbers.{picked-value, picked-bad}
-use Rattle.octets.proofs.Tests.{Each, each-of, every-of, one-fails, between-low, between-high, picked}
+use Rattle.octets.proofs.Tests.{never, Each, each-of, every-of, one-fails, between-low, between-high, picked}
 use Rattle.octets.specs.Bytes.{pick, every, holds, byteAt, part}
 use Rattle.octets.specs.declared.Num.the-variants.{Value, Bad}
 use Rattle.parts.specs.Originator.{originatorOf, isKnown, known}
@@ -183,8 +183,4 @@ body-long s h =
     (omega arith, omega arith)
 
 pub short-not : (s : List ℕ) → length s < 33 → bodyForm s ≡ false
-short-not s h = go (bodyForm s) refl
-  where
-    go : (b : Bool) → bodyForm s ≡ b → b ≡ false
-    go true e = absurd (omega (arith, body-long s e .0))
-    go false e = refl
+short-not s h = never (bodyForm s) (λ e. omega (arith, body-long s e .0))

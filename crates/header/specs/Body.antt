@@ -1,7 +1,7 @@
 -- The header through the dash after JJJHHMM, `ZCZC-ORG-EEE-PSSCCC+TTTT-JJJHHMM-`, with 1 to 31 locations, each after a dash:
 -- its bytes for given parts, which bytes are of this form, and the parts that they say.
 use Prim.Native.Nat.{ℕ, zero, suc, _+_, _-_, _*_, _/_}
-use mathlib.Core.Bool.{Bool, true, false, _&&_}
+use mathlib.Core.Bool.{Bool, true, false}
 use mathlib.Core.List.{List, [], _∷_, _++_}
 use lib.ListN.{length, take}
 use lib.Dec.{eqb}

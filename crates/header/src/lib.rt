@@ -152,7 +152,7 @@ fn length_ok(n: usize) -> bool
     n == 26 + 7 * count
 }
 
-fn refused_body() -> BodyRead
+pub fn refused_body() -> BodyRead
     ensures { λ r. ⌜ r ≡ bodyRefusal ⌝ }
 {
     let body = parts::no_body();

@@ -1,9 +1,13 @@
 -- The parts of an answer fit their bits, and a refusal is its number alone.
-use Prim.Native.Nat.{ℕ, _≤_}
-use mathlib.Core.List.{List}
-use mathlib.Core.Path.{_≡_, sym}
+use Prim.Native.Nat.{ℕ, zero, suc, _≤_}
+use mathlib.Core.Bool.{Bool, true, false}
+use mathlib.Core.List.{List, [], _∷_}
+use mathlib.Core.Path.{_≡_, refl, sym}
 use native.Mathlib.Omega.{arith}
 use borrow.Author.Tests.{eq-eqb, ne-eqb}
+use lib.Dec.{eqb}
+use lib.ListN.{length}
+use Rattle.octets.specs.Bytes.{pick}
 use Rattle.convert.proofs.Answers.{Small, convert-small}
 use Rattle.convert.specs.Convert.{convertOf, answerOf}
 use Rattle.convert.specs.declared.Converted.{Converted}
@@ -17,6 +21,17 @@ use Rattle.parts.specs.Originator.{numberOf}
 use Rattle.parts.specs.declared.Originator.{Originator}
 use Rattle.parts.specs.declared.Originator.the-variants.{Pep, Eas, Wxr, Civ}
 use Rattle.parts.specs.declared.Parts.{Parts}
+use Rattle.ledger.specs.Board.{live, carries, indexOf}
+use Rattle.board.specs.Rules.{boardOf, boardOk}
+use Rattle.board.specs.Calls as board
+use Rattle.board.specs.declared.Handed.{Handed}
+use Rattle.board.proofs.Boards.{board-within, kept}
+use Rattle.board.proofs.Answers.{offer-bad, hand-bad}
+use Rattle.board.proofs.Keeps.{Offer, offer-is, Hand, hand-is}
+use Rattle.offers.specs.Records.{recordsOf}
+use Rattle.offers.specs.Offer.{refused, given, offerOf}
+use Rattle.offers.specs.declared.Offered.{Offered}
+use Rattle.offers.proofs.Offering.{judged-small}
 
 -- ---- a conversion
 
@@ -55,3 +70,59 @@ read-refused r e = sym (rw (ne-eqb (r .number) 0 e))
 
 pub write-narrow : (d : List ℕ) (p : Parts) (w : Written) → w ≡ writeOf d p → w .len ≤ 252
 write-narrow d p w is = rw is (write-small d p)
+
+-- ---- an offer
+
+pub record NarrowOffered (o : Offered) : Type 0 where
+  pub number : o .number ≤ 255
+  pub field : o .field ≤ 255
+  pub added : o .added ≤ 65535
+
+records-narrow : (s : List ℕ) (rs : List (List ℕ)) → NarrowOffered (given (board.offerOf s rs) .answer)
+records-narrow s rs = go (boardOk s) refl
+  where
+    by : boardOk s ≡ true → Offer s rs → NarrowOffered (given (board.offerOf s rs) .answer)
+    by ok (Offer.taken l e) = rw e (record { number = omega arith; field = omega arith; added = omega (arith, l, kept s ok .high) })
+    by ok (Offer.full l e) = rw e (record { number = omega arith; field = omega arith; added = omega arith })
+
+    go : (b : Bool) → boardOk s ≡ b → NarrowOffered (given (board.offerOf s rs) .answer)
+    go true ok = by ok (offer-is s rs ok)
+    go false e = rw (offer-bad s rs e) (record { number = omega arith; field = omega arith; added = omega arith })
+
+pub offer-narrow : (s m : List ℕ) → NarrowOffered (offerOf s m .answer)
+unfolding offerOf
+offer-narrow s m = of (boardOk s) _ _ (judged-small m)
+  where
+    go : (a b : Bool) (number field : ℕ) → (number ≤ 17) × (field ≤ 7) → NarrowOffered (pick a (pick b (given (board.offerOf s (recordsOf m))) (refused number field s)) (refused 1 0 s) .answer)
+    go false b number field j = record { number = omega arith; field = omega arith; added = omega arith }
+    go true false number field j = record { number = omega arith; field = omega arith; added = omega arith }
+    go true true number field j = records-narrow s (recordsOf m)
+
+    of : (a : Bool) (number field : ℕ) → (number ≤ 17) × (field ≤ 7) → NarrowOffered (pick a (pick (eqb number 0) (given (board.offerOf s (recordsOf m))) (refused number field s)) (refused 1 0 s) .answer)
+    of a number field j = go a (eqb number 0) number field j
+
+-- ---- a hand-out
+
+pub record NarrowHanded (h : Handed) : Type 0 where
+  pub number : h .number ≤ 255
+  pub index : h .index ≤ 65535
+
+index-within : (p : List ℕ → Bool) (h : List ℕ) (l : List (List ℕ)) → indexOf p h l ≤ length l
+index-within p h [] = omega arith
+index-within p h (r ∷ l) = go (carries p h r) (index-within p h l)
+  where
+    go : (b : Bool) → indexOf p h l ≤ length l → pick b zero (suc (indexOf p h l)) ≤ suc (length l)
+    go true i = omega arith
+    go false i = omega arith
+
+pub hand-narrow : (s : List ℕ) → NarrowHanded (board.handOf s .answer)
+hand-narrow s = go (boardOk s) refl
+  where
+    by : boardOk s ≡ true → Hand s → NarrowHanded (board.handOf s .answer)
+    by ok (Hand.nothing d e) = rw e (record { number = omega arith; index = omega arith })
+    by ok (Hand.full h hs d l e) = rw e (record { number = omega arith; index = omega arith })
+    by ok (Hand.given h hs d l e) = rw e (record { number = omega arith; index = omega (arith, index-within (live (boardOf s)) h (boardOf s), board-within s, kept s ok .high) })
+
+    go : (b : Bool) → boardOk s ≡ b → NarrowHanded (board.handOf s .answer)
+    go true ok = by ok (hand-is s ok)
+    go false e = rw (hand-bad s e) (record { number = omega arith; index = omega arith })

@@ -1,6 +1,6 @@
 -- What a host takes out of an answer, part by part as the functions of include/stuiverhaag.h do, is what was answered.
---     convert-unpacked, read-unpacked, write-unpacked     for each call
---     refusal-alone                                       a refused conversion is its number and its field
+--     convert-unpacked, read-unpacked, write-unpacked, offer-unpacked, hand-out-unpacked     for each call
+--     refusal-alone                                                                          a refused conversion is its number and its field
 use Prim.Native.Nat.{ℕ, _+_, _*_, _/_, _%_, _≤_}
 use mathlib.Core.Bool.{Bool, true, false}
 use mathlib.Core.List.{List}
@@ -19,8 +19,12 @@ use Rattle.header.specs.declared.Written.{Written}
 use Rattle.convert.proofs.Answers.{convert-refused}
 use Rattle.convert.specs.Convert.{Outcome, convertOf, answerOf}
 use Rattle.convert.specs.declared.Converted.{Converted}
-use Rattle.host.proofs.Packing.{convert-narrow, read-narrow}
-use Rattle.host.specs.Packed.{bit8, bit16, bit24, bit28, bit32, bit48, bit55, packedConverted, NarrowConverted, NarrowBody, packedRead, packedWritten}
+use Rattle.board.specs.Calls.{handOf}
+use Rattle.board.specs.declared.Handed.{Handed}
+use Rattle.offers.specs.Offer.{offerOf}
+use Rattle.offers.specs.declared.Offered.{Offered}
+use Rattle.host.proofs.Packing.{convert-narrow, read-narrow, offer-narrow, hand-narrow}
+use Rattle.host.specs.Packed.{bit8, bit16, bit24, bit28, bit32, bit48, bit55, packedConverted, NarrowConverted, NarrowBody, packedRead, packedWritten, packedOffered, packedHanded}
 
 -- ---- a conversion
 
@@ -95,3 +99,20 @@ write-unpacked d p =
     let l = write-small d p in
     let n = number-small d p in
     record { number = omega arith; len = omega arith }
+
+-- ---- a board
+
+pub record HasOffered (n : ℕ) (o : Offered) : Type 0 where
+  pub number : n % 256 ≡ o .number
+  pub field : n / bit8 % 256 ≡ o .field
+  pub added : n / bit16 % 65536 ≡ o .added
+
+pub offer-unpacked : (s m : List ℕ) → let o = offerOf s m .answer in HasOffered (packedOffered o) o
+offer-unpacked s m = let w = offer-narrow s m in record { number = omega arith; field = omega arith; added = omega arith }
+
+pub record HasHanded (n : ℕ) (h : Handed) : Type 0 where
+  pub number : n % 256 ≡ h .number
+  pub index : n / bit16 % 65536 ≡ h .index
+
+pub hand-out-unpacked : (s : List ℕ) → let h = handOf s .answer in HasHanded (packedHanded h) h
+hand-out-unpacked s = let w = hand-narrow s in record { number = omega arith; index = omega arith }

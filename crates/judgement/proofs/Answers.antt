@@ -1,15 +1,16 @@
 -- What is answered for any message, refused or not.
---     number-small     a number to 14
---     field-kept       the field of the message read
---     field-alone      a field only beside number 7
+--     number-small                    a number to 14
+--     alerted-holds, judged-holds     what holds of each answer
+--     field-kept                      the field of the message read
+--     field-alone                     a field only beside number 7
 use Prim.Native.Nat.{ℕ, _≤_}
 use mathlib.Core.Path.{_≡_, refl, _∙_}
-use mathlib.Core.Bool.{Bool, true, false}
+use mathlib.Core.Bool.{true, false}
 use mathlib.Core.List.{List}
 use native.Mathlib.Omega.{arith}
 use borrow.Author.Tests.{eqb-true}
 use lib.Dec.{eqb}
-use Rattle.octets.specs.Bytes.{pick}
+use Rattle.octets.proofs.Tests.{either-way}
 use Rattle.parts.specs.Originator.{isKnown}
 use Rattle.message.specs.Message.{messageOf}
 use Rattle.message.specs.declared.Message.{Message}
@@ -20,31 +21,23 @@ use Rattle.judgement.specs.declared.Judged.{Judged}
 
 module _ (s : List ℕ) (m : Message) where
   -- of each refusal from 11 to 14 and of an alert: of a message that passed 4 to 10 and is not quiet
-  alerted-holds : (P : Judged → Type 0) → ((n : ℕ) → n ≤ 14 → P (without m n false)) → P (record { number = 0; field = m .field; quiet = false; body = bodyIn s m; message = m }) → P (alerted s m)
+  pub alerted-holds : (P : Judged → Type 0) → ((n : ℕ) → n ≤ 14 → P (without m n false)) → P (record { number = 0; field = m .field; quiet = false; body = bodyIn s m; message = m }) → P (alerted s m)
   unfolding alerted
   alerted-holds P refused alert =
-      chosen (eventIs s (infoIn m .events .same)) _ _
-      (chosen (isKnown (originOf s (infoIn m .parameters .originator))) _ _
-      (chosen (located (infoIn m .locations)) _ _
-      (chosen (eqb (lasting s m) 0) _ _ (refused 14 (omega arith)) alert)
-      (refused 13 (omega arith)))
-      (refused 12 (omega arith)))
-      (refused 11 (omega arith))
-    where
-      chosen : (b : Bool) (x y : Judged) → P x → P y → P (pick b x y)
-      chosen true x y h k = h
-      chosen false x y h k = k
+      either-way P (eventIs s (infoIn m .events .same)) _ _
+      (λ _. either-way P (isKnown (originOf s (infoIn m .parameters .originator))) _ _
+      (λ _. either-way P (located (infoIn m .locations)) _ _
+      (λ _. either-way P (eqb (lasting s m) 0) _ _ (λ _. refused 14 (omega arith)) (λ _. alert))
+      (λ _. refused 13 (omega arith)))
+      (λ _. refused 12 (omega arith)))
+      (λ _. refused 11 (omega arith))
 
   -- of a message refused before, of a quiet one, and of those: of every message
-  judged-holds : (P : Judged → Type 0) → (eqb (m .number) 0 ≡ false → P (without m (m .number) false)) → (eqb (m .number) 0 ≡ true → P (without m 0 true)) →
+  pub judged-holds : (P : Judged → Type 0) → (eqb (m .number) 0 ≡ false → P (without m (m .number) false)) → (eqb (m .number) 0 ≡ true → P (without m 0 true)) →
       (eqb (m .number) 0 ≡ true → P (alerted s m)) → P (judgedBy s m)
   unfolding judgedBy
-  judged-holds P refused quiet alert = go (eqb (m .number) 0) refl (quietOf m)
-    where
-      go : (b : Bool) → eqb (m .number) 0 ≡ b → (q : Bool) → P (pick b (pick q (without m 0 true) (alerted s m)) (without m (m .number) false))
-      go false e q = refused e
-      go true e true = quiet e
-      go true e false = alert e
+  judged-holds P refused quiet alert =
+      either-way P (eqb (m .number) 0) _ _ (λ e. either-way P (quietOf m) _ _ (λ _. quiet e) (λ _. alert e)) refused
 
   pub field-kept : judgedBy s m .field ≡ m .field
   field-kept =

@@ -10,7 +10,6 @@ use native.Mathlib.Omega.{arith}
 use native.Mathlib.Decide.{decLe}
 use borrow.Author.Tests.{eq-eqb, eqb-false, not-true}
 use lib.Dec.{eqb}
-use Rattle.octets.specs.Bytes.{pick}
 use Rattle.octets.proofs.Tests.{and-right, each-of}
 use Rattle.clock.specs.Time.{span}
 use Rattle.clock.specs.Period.{periodOf}
@@ -29,6 +28,7 @@ use Rattle.leaves.proofs.Fits.{LocationsFit, locations-fit, sent-in}
 use Rattle.judgement.specs.Rules.{infoIn, eventIs, originOf, located, quietOf}
 use Rattle.judgement.specs.Judged.{bodyWith, lasting, bodyIn, alerted, judgedBy, judgedOf}
 use Rattle.judgement.specs.declared.Judged.{Judged}
+use Rattle.judgement.proofs.Answers.{alerted-holds, judged-holds}
 
 -- ---- the tests of 4 to 14
 
@@ -113,11 +113,6 @@ body-ok s h q =
 
 -- whatever is answered, the message stands beside it
 pub message-kept : (s : List ℕ) (m : Message) → judgedBy s m .message ≡ m
-unfolding judgedBy alerted
 message-kept s m =
-    by (eqb (m .number) 0) _ _ (by (quietOf m) _ _ refl (by (eventIs s (infoIn m .events .same)) _ _
-    (by (isKnown (originOf s (infoIn m .parameters .originator))) _ _ (by (located (infoIn m .locations)) _ _ (by (eqb (lasting s m) 0) _ _ refl refl) refl) refl) refl)) refl
-  where
-    by : (b : Bool) (x y : Judged) → x .message ≡ m → y .message ≡ m → pick b x y .message ≡ m
-    by true x y h k = h
-    by false x y h k = k
+    judged-holds s m (λ (j : Judged). j .message ≡ m) (λ e. refl) (λ e. refl)
+    (λ e. alerted-holds s m (λ (j : Judged). j .message ≡ m) (λ n h. refl) refl)

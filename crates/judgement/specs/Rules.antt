@@ -5,7 +5,7 @@ use mathlib.Core.List.{List, [], _∷_}
 use lib.ListN.{getD, replicate}
 use lib.Dec.{eqb}
 use Rattle.octets.specs.Bytes.{pick, every, holds}
-use Rattle.clock.specs.Time.{timeOf}
+use Rattle.clock.specs.Time.{timeOf, instantIn}
 use Rattle.values.specs.Value.{valueAt}
 use Rattle.parts.specs.Originator.{originatorOf}
 use Rattle.parts.specs.Parts.{eventOk}
@@ -16,7 +16,6 @@ use Rattle.reads.specs.Leaves.{blank}
 use Rattle.reads.specs.declared.Leaf.{Leaf}
 use Rattle.reads.specs.declared.Locations.{Locations}
 use Rattle.reads.specs.declared.Info.{Info}
-use Rattle.message.specs.Judged.{instantIn}
 use Rattle.message.specs.declared.Message.{Message}
 use Rattle.judgement.specs.declared.Event.{Event}
 

@@ -1,5 +1,4 @@
 // A message judged up to number 14: quiet Cancels, and the parts of the header that the message gives.
-use clock::Time;
 use message::Message;
 use parts::Body;
 use parts::Origin;
@@ -10,7 +9,6 @@ ghost use mathlib.Core.Path.{_≡_};
 ghost use Prim.Native.Nat.{_<_, _-_};
 ghost use Rattle.octets.specs.Bytes.{every, holds};
 ghost use Rattle.clock.specs.Time.{span};
-ghost use Rattle.message.specs.Judged.{instantIn};
 ghost use Rattle.judgement.specs.Rules.{noEvent, eventOf, originOf, located, secondsTo, unplaced, complete, quietOf};
 ghost use Rattle.judgement.specs.Judged.{without, bodyWith, alerted, judgedOf};
 
@@ -93,20 +91,6 @@ fn is_unplaced(l: Locations) -> bool
     l.count == 0
 }
 
-fn seconds_between(t: Time, sent: u32) -> u32
-    ensures { λ r. ⌜ r ≡ instantIn t - sent ⌝ }
-{
-    match t {
-        Time::At(n) => {
-            if n <= sent {
-                return 0;
-            }
-            n - sent
-        }
-        Time::Bad => 0,
-    }
-}
-
 // The seconds from sent to the expires leaf; 0 where it is absent, malformed or not after sent.
 fn seconds_to(s: &[u8], l: Leaf, sent: u32) -> u32
     ensures { λ r. ⌜ r ≡ secondsTo (now (s .entry)) l sent ⌝ }
@@ -114,8 +98,11 @@ fn seconds_to(s: &[u8], l: Leaf, sent: u32) -> u32
     if l.count == 0 {
         return 0;
     }
-    let t = fields::time_at(s, l.at);
-    seconds_between(t, sent)
+    let end = clock::seconds(fields::time_at(s, l.at));
+    if end <= sent {
+        return 0;
+    }
+    end - sent
 }
 
 // Whether there is an info, a SAME eventCode, a SAME geocode and an expires.

@@ -19,12 +19,11 @@ use Rattle.octets.specs.Text.{bytes}
 use Rattle.octets.specs.Digits.{value, numOf}
 use Rattle.octets.specs.declared.Num.{Num}
 use Rattle.octets.specs.declared.Num.the-variants.{Value, Bad}
-use Rattle.octets.proofs.Tests.{and-right, every-none, every-step, every-rest, every-append}
+use Rattle.octets.proofs.Tests.{and-right, every-none, every-step, every-rest, every-append, either-way}
 use Rattle.octets.proofs.Numbers.{num-value, value-below}
-use Rattle.clock.specs.Time.{span, timeOf}
+use Rattle.clock.specs.Time.{span, instantIn}
 use Rattle.clock.specs.declared.Time.{Time}
-use Rattle.clock.specs.declared.Time.the-variants.{At}
-use Rattle.clock.proofs.Times.{accepted-inside}
+use Rattle.clock.proofs.Times.{instant-low}
 use Rattle.parts.specs.Parts.{isLocation, isZero}
 use Rattle.faults.specs.Field.{onward, lowest}
 use Rattle.markup.specs.Tree.{Forest, One, one, none}
@@ -39,7 +38,7 @@ use Rattle.reads.specs.declared.Info.{Info}
 use Rattle.reads.specs.declared.Alert.{Alert}
 use Rattle.gather.specs.Read.{Element, named, leafIn, location, area, resource, infoOf, fromEnglish, selected, alertOf}
 use Rattle.message.specs.Root.{prefixOf, rootOk}
-use Rattle.message.specs.Judged.{leafAt, onlyOf, timed, statusOf, msgTypeOf, scopeOf, asksReferences, referenced, faultsWith, fieldOf, numberWith, instantIn}
+use Rattle.message.specs.Judged.{leafAt, onlyOf, timed, statusOf, msgTypeOf, scopeOf, asksReferences, referenced, faultsWith, fieldOf, numberWith}
 use Rattle.message.specs.Message.{refusedAs, judged, passed, ofRoot, messageOf}
 use Rattle.message.specs.declared.Message.{Message}
 
@@ -55,11 +54,7 @@ record AudioFits (s : List ℕ) (a : Audio) : Type 0 where
   pub number : a .number ≤ 3
   pub uri : eqb (a .number) 0 ≡ false → between 1 1024 (length (valueAt s (a .uri))) ≡ true
 
--- ---- a choice, and a fold
-
-chosen : {A : Type 0} (P : A → Type 0) (b : Bool) (x y : A) → (b ≡ true → P x) → (b ≡ false → P y) → P (pick b x y)
-chosen P true x y h k = h refl
-chosen P false x y h k = k refl
+-- ---- a fold
 
 fold-holds : {A B : Type 0} (P : A → Type 0) (f : A → B → A) → ((x : A) (e : B) → P x → P (f x e)) → (es : List B) (x : A) → P x → P (foldl f x es)
 fold-holds P f k [] x h = h
@@ -86,7 +81,7 @@ drop-more (suc n) (x ∷ l) h = drop-more n l h
 
 placed-fit : (e : Locations) (v : ℕ) → v < 1000000 → LocationsFit e → LocationsFit (placed e v)
 unfolding placed isLocation
-placed-fit e v h f = chosen LocationsFit (leb 31 (e .count)) _ _ (λ q. f) more
+placed-fit e v h f = either-way LocationsFit (leb 31 (e .count)) _ _ (λ q. f) more
   where
     more : leb 31 (e .count) ≡ false → LocationsFit (record { count = e .count + 1; list = set (e .list) (e .count) v; bad = e .bad; fault = e .fault })
     more q =
@@ -103,8 +98,8 @@ placed-fit e v h f = chosen LocationsFit (leb 31 (e .count)) _ _ (λ q. f) more
 pub location-fits : (s p : List ℕ) (x : Locations) (e : Element) → LocationsFit x → LocationsFit (location s p x e)
 unfolding locationStep
 location-fits s p x e h =
-    chosen LocationsFit (pairOk name value) _ _
-    (λ q. chosen LocationsFit (says s (name .at) (bytes "SAME")) _ _ (λ r. go (sixDigits (valueAt s (value .at))) refl) (λ r. h))
+    either-way LocationsFit (pairOk name value) _ _
+    (λ q. either-way LocationsFit (says s (name .at) (bytes "SAME")) _ _ (λ r. go (sixDigits (valueAt s (value .at))) refl) (λ r. h))
     (λ q. record { few = h .few; long = h .long; six = h .six; zeros = h .zeros })
   where
     name : Leaf
@@ -120,15 +115,15 @@ location-fits s p x e h =
 audio-most : (s : List ℕ) (n : ℕ) → audioOf s n ≤ 3
 unfolding audioOf
 audio-most s n =
-    chosen (λ (k : ℕ). k ≤ 3) (says s n (bytes "audio/x-ipaws-audio-mp3")) _ _ (λ q. omega arith)
-    (λ q. chosen (λ (k : ℕ). k ≤ 3) (says s n (bytes "audio/x-ipaws-audio-wav")) _ _ (λ q. omega arith)
-    (λ q. chosen (λ (k : ℕ). k ≤ 3) (says s n (bytes "audio/x-ipaws-streaming-audio-mp3")) _ _ (λ q. omega arith) (λ q. omega arith)))
+    either-way (λ (k : ℕ). k ≤ 3) (says s n (bytes "audio/x-ipaws-audio-mp3")) _ _ (λ q. omega arith)
+    (λ q. either-way (λ (k : ℕ). k ≤ 3) (says s n (bytes "audio/x-ipaws-audio-wav")) _ _ (λ q. omega arith)
+    (λ q. either-way (λ (k : ℕ). k ≤ 3) (says s n (bytes "audio/x-ipaws-streaming-audio-mp3")) _ _ (λ q. omega arith) (λ q. omega arith)))
 
 resource-fits : (s p : List ℕ) (x : Audio) (e : Element) → AudioFits s x → AudioFits s (resource s p x e)
 unfolding audioStep
 resource-fits s p x e h =
-    chosen (AudioFits s) (soundOf mime && soundOf uri) _ _
-    (λ q. chosen (AudioFits s) (eqb (x .number) 0 && isAudio s mime uri) _ _ (λ r. first (and-right (eqb (x .number) 0) (isAudio s mime uri) r)) (λ r. h))
+    either-way (AudioFits s) (soundOf mime && soundOf uri) _ _
+    (λ q. either-way (AudioFits s) (eqb (x .number) 0 && isAudio s mime uri) _ _ (λ r. first (and-right (eqb (x .number) 0) (isAudio s mime uri) r)) (λ r. h))
     (λ q. record { number = h .number; uri = h .uri })
   where
     mime : Leaf
@@ -151,18 +146,18 @@ module _ (s : List ℕ) where
   info-holds P nothing each p (x ∷ xs) es = each p (x .holds)
 
   -- of each refusal and of what is judged: of every message
-  message-holds : (P : Message → Type 0) → ((n : ℕ) → n ≤ 6 → P (refusedAs (length s) n)) → ((p : List ℕ) (t : Forest) → P (judged s (alertOf s p t))) → P (messageOf s)
+  pub message-holds : (P : Message → Type 0) → ((n : ℕ) → 1 ≤ n → n ≤ 6 → P (refusedAs (length s) n)) → ((p : List ℕ) (t : Forest) → P (judged s (alertOf s p t))) → P (messageOf s)
   unfolding messageOf ofRoot passed
-  message-holds P refuse judge = chosen P (between 1 32768 (length s)) _ _ (λ q. go (docAt s)) (λ q. refuse 4 (omega arith))
+  message-holds P refuse judge = either-way P (between 1 32768 (length s)) _ _ (λ q. go (docAt s)) (λ q. refuse 4 (omega arith) (omega arith))
     where
       go : (o : One) → P (ofRoot s o)
-      go none = refuse 5 (omega arith)
-      go (one g kids e) = chosen P (rootOk s (g .from + 1) (g .name)) _ _ (λ q. judge (prefixOf s (g .from + 1) (g .name)) kids) (λ q. refuse 6 (omega arith))
+      go none = refuse 5 (omega arith) (omega arith)
+      go (one g kids e) = either-way P (rootOk s (g .from + 1) (g .name)) _ _ (λ q. judge (prefixOf s (g .from + 1) (g .name)) kids) (λ q. refuse 6 (omega arith) (omega arith))
 
   -- of nothing read and of what is read in each info: of the info that is answered
   selected-holds : (P : Info → Type 0) → P (noInfo (length s)) → ((p : List ℕ) (t : Forest) → P (infoOf s p t)) → P (messageOf s .alert .info)
   unfolding judged alertOf
-  selected-holds P nothing each = message-holds (λ (m : Message). P (m .alert .info)) (λ n l. nothing) (λ p t. info-holds P nothing each p (fromEnglish s p (named s p "info" t)) (named s p "info" t))
+  selected-holds P nothing each = message-holds (λ (m : Message). P (m .alert .info)) (λ n k l. nothing) (λ p t. info-holds P nothing each p (fromEnglish s p (named s p "info" t)) (named s p "info" t))
 
 pub no-locations-fit : (n : ℕ) → LocationsFit (noInfo n .locations)
 unfolding every isZero
@@ -197,15 +192,11 @@ audio-fits s = audio-holds s .uri
 
 timed-in : (s : List ℕ) (l : Leaf) → instantIn (timed s l) < span
 unfolding timed
-timed-in s l = chosen (λ (t : Time). instantIn t < span) (onlyOf l) _ _ (λ q. go (timeOf (valueAt s (l .at))) refl) (λ q. omega arith)
-  where
-    go : (t : Time) → timeOf (valueAt s (l .at)) ≡ t → instantIn t < span
-    go (At n) q = accepted-inside (valueAt s (l .at)) n q
-    go Time.Bad q = omega arith
+timed-in s l = either-way (λ (t : Time). instantIn t < span) (onlyOf l) _ _ (λ q. instant-low (valueAt s (l .at))) (λ q. omega arith)
 
 pub sent-in : (s : List ℕ) → messageOf s .sent < span
 unfolding judged
-sent-in s = message-holds s (λ (m : Message). m .sent < span) (λ n l. omega arith) (λ p t. timed-in s (leafAt 2 (alertOf s p t)))
+sent-in s = message-holds s (λ (m : Message). m .sent < span) (λ n k l. omega arith) (λ p t. timed-in s (leafAt 2 (alertOf s p t)))
 
 -- ---- number and field
 
@@ -225,10 +216,10 @@ record NumberFits (number field : ℕ) : Type 0 where
 number-fits : (s : List ℕ) (field status scope kind : ℕ) (l : Leaf) → NumberFits (numberWith s field status scope kind l) field
 unfolding numberWith
 number-fits s field status scope kind l =
-    chosen Fit (eqb field 0) _ _
-    (λ q. chosen Fit (eqb status 1 && eqb scope 1) _ _
-    (λ x. chosen Fit (leb kind 3) _ _
-    (λ y. chosen Fit (asksReferences kind && not (referenced s l)) _ _ (λ z. beside 10 q (omega arith)) (λ z. beside 0 q (omega arith)))
+    either-way Fit (eqb field 0) _ _
+    (λ q. either-way Fit (eqb status 1 && eqb scope 1) _ _
+    (λ x. either-way Fit (leb kind 3) _ _
+    (λ y. either-way Fit (asksReferences kind && not (referenced s l)) _ _ (λ z. beside 10 q (omega arith)) (λ z. beside 0 q (omega arith)))
     (λ y. beside 9 q (omega arith)))
     (λ x. beside 8 q (omega arith)))
     (λ q. record { small = omega arith; seven = λ n. absurd (n refl) })
@@ -242,7 +233,7 @@ number-fits s field status scope kind l =
 number-holds : (s : List ℕ) → NumberFits (messageOf s .number) (messageOf s .field)
 unfolding judged
 number-holds s =
-    message-holds s (λ (m : Message). NumberFits (m .number) (m .field)) (λ n l. record { small = omega arith; seven = λ x. refl })
+    message-holds s (λ (m : Message). NumberFits (m .number) (m .field)) (λ n k l. record { small = omega arith; seven = λ x. refl })
     (λ p t. let a = alertOf s p t in number-fits s (fieldOf s a) (statusOf s a) (scopeOf s a) (msgTypeOf s a) (leafAt 6 a))
 
 pub number-small : (s : List ℕ) → messageOf s .number ≤ 10
@@ -253,7 +244,7 @@ field-most s a = lowest-most (faultsWith s a (timed s (leafAt 2 a)) (statusOf s 
 
 pub field-small : (s : List ℕ) → messageOf s .field ≤ 7
 unfolding judged
-field-small s = message-holds s (λ (m : Message). m .field ≤ 7) (λ n l. omega arith) (λ p t. field-most s (alertOf s p t))
+field-small s = message-holds s (λ (m : Message). m .field ≤ 7) (λ n k l. omega arith) (λ p t. field-most s (alertOf s p t))
 
 -- a field is answered only beside number 7
 pub field-zero : (s : List ℕ) → (messageOf s .number ≡ 7 → ⊥) → messageOf s .field ≡ 0

@@ -8,8 +8,9 @@ use mathlib.Core.List.{List, [], _∷_, foldl}
 use native.Mathlib.Omega.{arith}
 use lib.ListN.{length}
 use lib.Dec.{eqb}
-use Rattle.octets.specs.Bytes.{pick, between, same}
+use Rattle.octets.specs.Bytes.{between, same}
 use Rattle.octets.specs.Text.{bytes}
+use Rattle.octets.proofs.Tests.{either-way}
 use Prim.Native.String.{String}
 use Rattle.markup.specs.Tree.{Forest, nil, text, elem, One, one, none}
 use Rattle.markup.specs.Document.{docAt}
@@ -26,10 +27,6 @@ use Rattle.message.specs.Root.{prefixOf, rootOk}
 use Rattle.message.specs.Message.{judged, passed, ofRoot, messageOf}
 use Rattle.message.specs.declared.Message.{Message}
 use Rattle.leaves.proofs.Reals.{Real, AllReal, leaf-is}
-
-either : {A : Type 0} (P : A → Type 0) (b : Bool) (x y : A) → P x → P y → P (pick b x y)
-either P true x y h k = h
-either P false x y h k = k
 
 module _ (s : List ℕ) where
   -- ---- places in the message
@@ -79,7 +76,7 @@ module _ (s : List ℕ) where
   -- ---- what one element adds
 
   found-in : (l : Leaf) (i : ℕ) → In l → i ≤ length s → In (found l i)
-  found-in l i h k = either (λ (n : ℕ). n ≤ length s) (eqb (l .count) 0) i (l .at) k h
+  found-in l i h k = either-way (λ (n : ℕ). n ≤ length s) (eqb (l .count) 0) i (l .at) (λ _. k) (λ _. h)
 
   added-in : (l : Leaf) (e : Element) → Real s (e .tag) (e .holds) → AllReal s (e .holds) → In l → In (added s l e)
   added-in l e r a h = go (bare (e .holds))
@@ -91,26 +88,26 @@ module _ (s : List ℕ) where
   event-in : (x : Events) (name value : Leaf) → In value → EventsIn x → EventsIn (eventStep s x name value)
   unfolding eventStep
   event-in x name value v h =
-      either EventsIn (pairOk name value) _ _
-      (either EventsIn (says s (name .at) (bytes "SAME")) _ _ (found-in (x .same) (value .at) h v) h)
-      h
+      either-way EventsIn (pairOk name value) _ _
+      (λ _. either-way EventsIn (says s (name .at) (bytes "SAME")) _ _ (λ _. found-in (x .same) (value .at) h v) (λ _. h))
+      (λ _. h)
 
   parameter-in : (x : Parameters) (name value : Leaf) → In value → ParametersIn x → ParametersIn (parameterStep s x name value)
   unfolding parameterStep
   parameter-in x name value v h =
-      either ParametersIn (pairOk name value) _ _
-      (either ParametersIn (says s (name .at) (bytes "EAS-ORG")) _ _ (record { originator = found-in (x .originator) (value .at) (h .originator) v; text = h .text; carry = h .carry })
-      (either ParametersIn (says s (name .at) (bytes "EASText")) _ _ (record { originator = h .originator; text = found-in (x .text) (value .at) (h .text) v; carry = h .carry })
-      (either ParametersIn (says s (name .at) (bytes "EAS-Must-Carry")) _ _ (record { originator = h .originator; text = h .text; carry = found-in (x .carry) (value .at) (h .carry) v })
-      h)))
-      (record { originator = h .originator; text = h .text; carry = h .carry })
+      either-way ParametersIn (pairOk name value) _ _
+      (λ _. either-way ParametersIn (says s (name .at) (bytes "EAS-ORG")) _ _ (λ _. record { originator = found-in (x .originator) (value .at) (h .originator) v; text = h .text; carry = h .carry })
+      (λ _. either-way ParametersIn (says s (name .at) (bytes "EASText")) _ _ (λ _. record { originator = h .originator; text = found-in (x .text) (value .at) (h .text) v; carry = h .carry })
+      (λ _. either-way ParametersIn (says s (name .at) (bytes "EAS-Must-Carry")) _ _ (λ _. record { originator = h .originator; text = h .text; carry = found-in (x .carry) (value .at) (h .carry) v })
+      (λ _. h))))
+      (λ _. record { originator = h .originator; text = h .text; carry = h .carry })
 
   audio-in : (x : Audio) (mime uri : Leaf) → In uri → AudioIn x → AudioIn (audioStep s x mime uri)
   unfolding audioStep
   audio-in x mime uri v h =
-      either AudioIn (soundOf mime && soundOf uri) _ _
-      (either AudioIn (eqb (x .number) 0 && isAudio s mime uri) _ _ v h)
-      h
+      either-way AudioIn (soundOf mime && soundOf uri) _ _
+      (λ _. either-way AudioIn (eqb (x .number) 0 && isAudio s mime uri) _ _ (λ _. v) (λ _. h))
+      (λ _. h)
 
   -- ---- elements of a message
 
@@ -154,7 +151,7 @@ module _ (s p : List ℕ) where
   english-real : (es : List Element) → Reals s es → Reals s (fromEnglish s p es)
   unfolding fromEnglish
   english-real [] r = tt
-  english-real (e ∷ es) r = either (Reals s) (english s (languageIn s p e)) (e ∷ es) (fromEnglish s p es) r (english-real es (r .2))
+  english-real (e ∷ es) r = either-way (Reals s) (english s (languageIn s p e)) (e ∷ es) (fromEnglish s p es) (λ _. r) (λ _. english-real es (r .2))
 
   selected-in : (xs es : List Element) → Reals s xs → Reals s es → InfoIn s (selected s p xs es)
   unfolding selected
@@ -172,11 +169,11 @@ module _ (s p : List ℕ) where
 -- what is absent or refused stands at the message's end
 pub message-inside : (s : List ℕ) → AlertIn s (messageOf s .alert)
 unfolding messageOf ofRoot passed judged
-message-inside s = either Inside (between 1 32768 (length s)) _ _ (go (docAt s) refl) (fresh-in s)
+message-inside s = either-way Inside (between 1 32768 (length s)) _ _ (λ _. go (docAt s) refl) (λ _. fresh-in s)
   where
     Inside : Message → Type 0
     Inside m = AlertIn s (m .alert)
 
     go : (o : One) → docAt s ≡ o → Inside (ofRoot s o)
     go none q = fresh-in s
-    go (one g kids e) q = either Inside (rootOk s (g .from + 1) (g .name)) _ _ (alert-in s (prefixOf s (g .from + 1) (g .name)) kids (leaf-is s g kids e q)) (fresh-in s)
+    go (one g kids e) q = either-way Inside (rootOk s (g .from + 1) (g .name)) _ _ (λ _. alert-in s (prefixOf s (g .from + 1) (g .name)) kids (leaf-is s g kids e q)) (λ _. fresh-in s)

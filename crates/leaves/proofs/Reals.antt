@@ -20,7 +20,7 @@ use Rattle.tags.specs.declared.Open.{Open}
 use Rattle.tags.specs.declared.Open.the-variants.{Full, Empty, Shut}
 use Rattle.tags.proofs.Goes.{OpenGoes, open-goes}
 use Rattle.markup.specs.Tree.{Tag, Forest, nil, text, elem, One, one, none, Held, held, bad, put, child, turn, items, sealed, closed, opened, elemAt, contentAt}
-use Rattle.markup.specs.Document.{declarationAt, miscAt, ended, rooted, rootAt, ledAt, docAt}
+use Rattle.markup.specs.Document.{declarationAt, miscAt, led, leadAt, ended, rooted, rootAt, docAt}
 use Rattle.markup.proofs.Goes.{OneGoes, HeldGoes, items-goes, elem-goes}
 use Rattle.values.specs.Value.{runs, trimmed, collapsed, valueAt}
 use Rattle.values.proofs.Steps.{value-past}
@@ -157,8 +157,8 @@ elem-real s (suc d) i = go (openAt s i) (open-goes s i) (items-real s (elemAt s 
 
 -- of each element that the root of a message of the subset holds
 pub leaf-is : (s : List ℕ) (g : Tag) (kids : Forest) (e : ℕ) → docAt s ≡ one g kids e → AllReal s kids
-unfolding docAt ledAt rootAt rooted ended
-leaf-is s g kids e q = go (declarationAt s) q
+unfolding docAt leadAt led rootAt rooted ended
+leaf-is s g kids e q = go (declarationAt s 0) q
   where
     is : (h : Tag) (f : Forest) (k : ℕ) → AllReal s f → one h f k ≡ one g kids e → AllReal s kids
     is h f k r u = let w : f ≡ kids = cc in rw w at r
@@ -178,10 +178,10 @@ leaf-is s g kids e q = go (declarationAt s) q
     root (one h f k) r u = after h f k (r .1) (miscAt s k) u
     root none r u = never u
 
-    led : (m : End) → rootAt s m ≡ one g kids e → AllReal s kids
-    led (At i) u = root (elemAt s 12 i) (elem-real s 12 i) u
-    led No u = never u
+    behind : (m : End) → rootAt s m ≡ one g kids e → AllReal s kids
+    behind (At i) u = root (elemAt s 12 i) (elem-real s 12 i) u
+    behind No u = never u
 
-    go : (d : End) → ledAt s d ≡ one g kids e → AllReal s kids
-    go (At a) u = led (miscAt s a) u
+    go : (d : End) → rootAt s (led s d) ≡ one g kids e → AllReal s kids
+    go (At a) u = behind (miscAt s a) u
     go No u = never u

@@ -2,7 +2,7 @@
 --     text-of-items, value-of-items     whatever reads the elements in it
 use Prim.Native.Nat.{ℕ, zero, suc}
 use mathlib.Core.Path.{_≡_, refl, ap, _∙_}
-use mathlib.Core.Bool.{true, false, false≢true}
+use mathlib.Core.Bool.{true, false≢true}
 use mathlib.Core.List.{List, _++_}
 use native.Mathlib.Omega.{arith}
 use Rattle.pieces.specs.Pieces.{pieceAt}

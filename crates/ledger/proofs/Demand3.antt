@@ -4,7 +4,7 @@
 --     in-order       hand-outs, while there is room, give the due headers in byte order, each once
 --     once           over any mixture of calls no header is handed out twice
 use Prim.Native.Nat.{ℕ, zero, suc, _+_, _≤_}
-use mathlib.Core.Bool.{Bool, true, false}
+use mathlib.Core.Bool.{Bool}
 use mathlib.Core.Path.{_≡_, refl, sym, ap, _∙_, subst}
 use mathlib.Core.Logic.{_⊎_, inl, inr, ⊎-elim, _↔_}
 use mathlib.Core.List.{List, [], _∷_, _++_, map}
@@ -15,6 +15,7 @@ use borrow.Author.Tests.{le-leb}
 use Rattle.octets.specs.declared.Order.the-variants.{Less}
 use Rattle.octets.specs.Bytes.{pick}
 use Rattle.octets.specs.Order.{cmp}
+use Rattle.octets.proofs.Tests.{either-way}
 use Rattle.records.specs.Record.{kind, key, notice, withdrawal, aired}
 use Rattle.records.proofs.Records.{withdrawal-inj, kind-notice, kind-withdrawal, kind-aired, key-notice}
 use Rattle.ledger.specs.Sorted.{In, Sorted, insert, insertAll}
@@ -27,15 +28,11 @@ offer-taken : (cap : ℕ) (a : Alert) (b : List (List ℕ)) → length (insertAl
 offer-taken cap a b h = ap (λ (t : Bool). pick t (insertAll (records a) b) b) (le-leb (length (insertAll (records a) b)) cap h)
 
 -- whatever a call does, what is held stays, and the board stays in order
-pick-both : {A : Type 0} (P : A → Type 0) (t : Bool) (x y : A) → P x → P y → P (pick t x y)
-pick-both P true x y p q = p
-pick-both P false x y p q = q
-
 offer-keeps : (cap : ℕ) (a : Alert) (b : List (List ℕ)) (r : List ℕ) → In r b → In r (offer cap a b)
-offer-keeps cap a b r m = pick-both (In r) (leb (length (insertAll (records a) b)) cap) (insertAll (records a) b) b (in-insertAll r (records a) b .1 (inr m)) m
+offer-keeps cap a b r m = either-way (In r) (leb (length (insertAll (records a) b)) cap) (insertAll (records a) b) b (λ _. in-insertAll r (records a) b .1 (inr m)) (λ _. m)
 
 offer-sorted : (cap : ℕ) (a : Alert) (b : List (List ℕ)) → Sorted b → Sorted (offer cap a b)
-offer-sorted cap a b s = pick-both Sorted (leb (length (insertAll (records a) b)) cap) (insertAll (records a) b) b (insertAll-sorted (records a) b s) s
+offer-sorted cap a b s = either-way Sorted (leb (length (insertAll (records a) b)) cap) (insertAll (records a) b) b (λ _. insertAll-sorted (records a) b s) (λ _. s)
 
 pub offers-sorted : (cap : ℕ) (l : List Alert) (b : List (List ℕ)) → Sorted b → Sorted (offers cap l b)
 offers-sorted cap [] b s = s
@@ -150,9 +147,9 @@ never-again cap (handedOut ∷ cs) b h a m = go (due b) refl (λ b′ a′ m′.
   where
     go : (d : List (List ℕ)) → due b ≡ d → ((b′ : List (List ℕ)) → In (aired h) b′ → In h (given cap cs b′) → ⊥) → In h (handOutOf cap b d .given ++ given cap cs (handOutOf cap b d .board)) → ⊥
     go [] e ih = ih b a
-    go (k ∷ ks) e ih = pick-both (λ (x : After). In h (x .given ++ given cap cs (x .board)) → ⊥) (leb (length (insert (aired k) b)) cap) (record { board = insert (aired k) b; given = k ∷ [] }) (record { board = b; given = [] })
-        (⊎-elim (λ p. in-due b k .0 (subst (λ (x : List (List ℕ)). In k x) (sym e) (inl refl)) .not-aired (subst (λ (x : List ℕ). In (aired x) b) p a)) (ih (insert (aired k) b) (in-insert (aired h) (aired k) b .1 (inr a))))
-        (ih b a)
+    go (k ∷ ks) e ih = either-way (λ (x : After). In h (x .given ++ given cap cs (x .board)) → ⊥) (leb (length (insert (aired k) b)) cap) (record { board = insert (aired k) b; given = k ∷ [] }) (record { board = b; given = [] })
+        (λ _. ⊎-elim (λ p. in-due b k .0 (subst (λ (x : List (List ℕ)). In k x) (sym e) (inl refl)) .not-aired (subst (λ (x : List ℕ). In (aired x) b) p a)) (ih (insert (aired k) b) (in-insert (aired h) (aired k) b .1 (inr a))))
+        (λ _. ih b a)
 
 pub once : (cap : ℕ) (cs : List Call) (b : List (List ℕ)) → Once (given cap cs b)
 once cap [] b = tt
@@ -161,6 +158,6 @@ once cap (handedOut ∷ cs) b = go (due b) (λ b′. once cap cs b′)
   where
     go : (d : List (List ℕ)) → ((b′ : List (List ℕ)) → Once (given cap cs b′)) → Once (handOutOf cap b d .given ++ given cap cs (handOutOf cap b d .board))
     go [] ih = ih b
-    go (k ∷ ks) ih = pick-both (λ (x : After). Once (x .given ++ given cap cs (x .board))) (leb (length (insert (aired k) b)) cap) (record { board = insert (aired k) b; given = k ∷ [] }) (record { board = b; given = [] })
-        (never-again cap cs (insert (aired k) b) k (in-insert (aired k) (aired k) b .1 (inl refl)), ih (insert (aired k) b))
-        (ih b)
+    go (k ∷ ks) ih = either-way (λ (x : After). Once (x .given ++ given cap cs (x .board))) (leb (length (insert (aired k) b)) cap) (record { board = insert (aired k) b; given = k ∷ [] }) (record { board = b; given = [] })
+        (λ _. (never-again cap cs (insert (aired k) b) k (in-insert (aired k) (aired k) b .1 (inl refl)), ih (insert (aired k) b)))
+        (λ _. ih b)

@@ -7,6 +7,7 @@ use lib.Dec.{leb, eqb}
 use lib.ListN.{length}
 use Rattle.octets.specs.Bytes.{pick, every, holds, same}
 use Rattle.records.specs.Record.{kind, key, header, notice, withdrawal, aired}
+use Rattle.ledger.specs.declared.Row.{Row}
 use Rattle.ledger.specs.Sorted.{In, has, insert, insertAll}
 
 -- ---- what is due
@@ -62,10 +63,6 @@ countOf p h [] = zero
 countOf p h (r ∷ rs) = pick (carries p h r) (suc (countOf p h rs)) (countOf p h rs)
 
 -- the index of the smallest notice that makes a header due, and how many notices not withdrawn carry it
-pub record Row : Type 0 where
-  pub index : ℕ
-  pub count : ℕ
-
 abbrev pub rowOf : List (List ℕ) → List ℕ → Row
 rowOf b h = record { index = indexOf (live b) h b; count = countOf (unwithdrawn b) h b }
 

@@ -12,7 +12,7 @@ use Rattle.pieces.specs.Pieces.{plainAt, short, nameAt, inNote, noteAt, wordedA
 use Rattle.tags.specs.Attributes.{over, bitAt, valueAt, valued, equalled, attrAt, sought, seekAt, attrNamed}
 use Rattle.tags.specs.Tags.{fresh, taken, takeAt, shutAt, tailAt, tailed, openAt, closeAt}
 use Rattle.markup.specs.Tree.{One, one, none, put, child, turn, items, sealed, closed, opened, elemAt}
-use Rattle.markup.specs.Document.{inDeclaration, declarationAt, passed, miscStep, miscAt, ended, rooted, rootAt, ledAt, docAt}
+use Rattle.markup.specs.Document.{inDeclaration, declarationAt, passed, miscStep, miscAt, led, leadAt, ended, rooted, rootAt, docAt}
 
 -- a text is a message of the subset
 unfoldable isOne : One → Bool
@@ -61,5 +61,5 @@ unfoldable right : Figure → Bool
 right f = pick (f .is) (good (f .text)) (not (good (f .text)))
 
 figures-hold : every right figures ≡ true
-unfolding isOne good right docAt ledAt rootAt rooted ended miscAt miscStep passed declarationAt inDeclaration elemAt opened closed sealed items turn child put openAt tailed tailAt shutAt takeAt taken fresh closeAt attrNamed seekAt sought attrAt equalled valued valueAt bitAt over pieceAt tagAt referred noted inText charAt refAt numberAt numeralFrom wordedAt noteAt inNote nameAt short plainAt walk stepped isFigure figureOf isPlain isNamed isStart mayStand bytes scan isVisible isSpace isLetter isCapital isDigit oneOf between every same
+unfolding isOne good right docAt leadAt led rootAt rooted ended miscAt miscStep passed declarationAt inDeclaration elemAt opened closed sealed items turn child put openAt tailed tailAt shutAt takeAt taken fresh closeAt attrNamed seekAt sought attrAt equalled valued valueAt bitAt over pieceAt tagAt referred noted inText charAt refAt numberAt numeralFrom wordedAt noteAt inNote nameAt short plainAt walk stepped isFigure figureOf isPlain isNamed isStart mayStand bytes scan isVisible isSpace isLetter isCapital isDigit oneOf between every same
 figures-hold = refl

@@ -7,13 +7,12 @@ use mathlib.Core.Bool.{Bool, true, false}
 use mathlib.Core.List.{List, [], _∷_}
 use native.Mathlib.Omega.{arith}
 use lib.ListN.{length}
-use lib.Dec.{ltb, lit<}
-use borrow.Author.Tests.{ltb-true}
+use lib.Dec.{lit<}
 use Rattle.octets.specs.Bytes.{pick, byteAt, stands, isSpace}
 use Rattle.octets.specs.Scan.{scan}
 use Rattle.octets.specs.Text.{bytes}
-use Rattle.octets.proofs.Tests.{and-left}
 use Rattle.octets.proofs.Sames.{stands-in}
+use Rattle.octets.proofs.Scans.{scan-ge}
 use Rattle.pieces.specs.Pieces.{noteAt, pieceAt}
 use Rattle.pieces.specs.declared.End.{End}
 use Rattle.pieces.specs.declared.End.the-variants.{At, No}
@@ -88,22 +87,18 @@ content-goes s d i = items-goes (elemAt s d) s (elem-goes s d) (suc (length s)) 
 
 -- ---- before and behind the root
 
-pub declaration-in : (s : List ℕ) (i : ℕ) → inDeclaration s i ≡ true → i < length s
-unfolding inDeclaration
-declaration-in s i e = ltb-true i (length s) (and-left (ltb i (length s)) _ e)
-
-pub decl-goes : (s : List ℕ) → EndGoes s 0 (declarationAt s)
+pub decl-goes : (s : List ℕ) (i : ℕ) → i ≤ length s → EndGoes s i (declarationAt s i)
 unfolding declarationAt bytes
-decl-goes s = go (stands (60 ∷ 63 ∷ 120 ∷ 109 ∷ 108 ∷ []) s 0) (isSpace (byteAt s 5)) (stands (63 ∷ 62 ∷ []) s e) refl
+decl-goes s i l = go (stands (60 ∷ 63 ∷ 120 ∷ 109 ∷ 108 ∷ []) s i) (isSpace (byteAt s (i + 5))) (stands (63 ∷ 62 ∷ []) s e) refl
   where
     e : ℕ
-    e = scan (inDeclaration s) (length s) 6
+    e = scan (inDeclaration s) (length s) (i + 6)
 
-    go : (a b c : Bool) → stands (63 ∷ 62 ∷ []) s e ≡ c → EndGoes s 0 (pick a (pick b (pick c (At (e + 2)) No) No) (At 0))
-    go true true true q = (omega arith, stands-in (63 ∷ 62 ∷ []) s e q (lit< tt))
+    go : (a b c : Bool) → stands (63 ∷ 62 ∷ []) s e ≡ c → EndGoes s i (pick a (pick b (pick c (At (e + 2)) No) No) (At i))
+    go true true true q = let h = scan-ge (inDeclaration s) (length s) (i + 6) in (omega arith, stands-in (63 ∷ 62 ∷ []) s e q (lit< tt))
     go true true false q = tt
     go true false c q = tt
-    go false b c q = (omega arith, omega arith)
+    go false b c q = (omega arith, l)
 
 pub step-goes : (s : List ℕ) (i : ℕ) → i ≤ length s → StepGoes s i (miscStep s i)
 unfolding miscStep passed

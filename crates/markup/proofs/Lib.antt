@@ -1,6 +1,6 @@
 pub mod Goes
 pub mod Reading
 pub mod Elements
-pub mod Documents
 pub mod Declarations
+pub mod Miscs
 pub mod Figures

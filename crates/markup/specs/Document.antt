@@ -19,11 +19,11 @@ use Rattle.markup.specs.Tree.{One, one, none, elemAt}
 unfoldable pub inDeclaration : List ℕ → ℕ → Bool
 inDeclaration s i = ltb i (length s) && not (stands (bytes "?>") s i)
 
--- an optional declaration at the first byte: `<?xml`, one white space, anything up to the first `?>`
-unfoldable pub declarationAt : List ℕ → End
-declarationAt s =
-    let e = scan (inDeclaration s) (length s) 6 in
-    pick (stands (bytes "<?xml") s 0) (pick (isSpace (byteAt s 5)) (pick (stands (bytes "?>") s e) (At (e + 2)) No) No) (At 0)
+-- an optional declaration, at i: `<?xml`, one white space, anything up to the first `?>`
+unfoldable pub declarationAt : List ℕ → ℕ → End
+declarationAt s i =
+    let e = scan (inDeclaration s) (length s) (i + 6) in
+    pick (stands (bytes "<?xml") s i) (pick (isSpace (byteAt s (i + 5))) (pick (stands (bytes "?>") s e) (At (e + 2)) No) No) (At i)
 
 unfoldable pub passed : End → Step
 passed (At j) = Go j
@@ -37,6 +37,15 @@ miscStep s i =
 -- white space and comments: where they end that begin at i
 unfoldable pub miscAt : List ℕ → ℕ → End
 miscAt s i = walkAt (miscStep s) s i
+
+-- behind the declaration, white space and comments
+unfoldable pub led : List ℕ → End → End
+led s (At a) = miscAt s a
+led s No = No
+
+-- what stands before the root, from i on: where it ends
+unfoldable pub leadAt : List ℕ → ℕ → End
+leadAt s i = led s (declarationAt s i)
 
 -- behind the root, white space and comments go to the end
 unfoldable pub ended : List ℕ → One → End → One
@@ -52,10 +61,6 @@ unfoldable pub rootAt : List ℕ → End → One
 rootAt s (At i) = rooted s (elemAt s 12 i)
 rootAt s No = none
 
-unfoldable pub ledAt : List ℕ → End → One
-ledAt s (At a) = rootAt s (miscAt s a)
-ledAt s No = none
-
--- the root of a message of the subset, with its place and what it holds; none where the message is not of the subset
+-- the root of a message of the subset, read from the first byte on, with its place and what it holds; none where the message is not of the subset
 unfoldable pub docAt : List ℕ → One
-docAt s = ledAt s (declarationAt s)
+docAt s = rootAt s (leadAt s 0)

@@ -2,7 +2,6 @@
 use pieces::End;
 use pieces::Step;
 ghost use mathlib.Core.Path.{_≡_};
-ghost use Prim.Native.Nat.{_≤_};
 ghost use lib.ListN.{length};
 ghost use Rattle.octets.specs.Scan.{scan};
 ghost use Rattle.markup.specs.Document.{inDeclaration, declarationAt, miscStep, miscAt};
@@ -20,17 +19,17 @@ fn declaration_end(s: &[u8], at: usize) -> usize
     i
 }
 
-// Where the declaration ends, which is at 0 where there is none; or that it does not end.
-pub fn declaration(s: &[u8]) -> End
-    ensures { λ r. ⌜ r ≡ declarationAt (now (s .entry)) ⌝ }
+// Where the declaration ends that begins at `at`, which is there where none begins; or that it does not end.
+pub fn declaration(s: &[u8], at: usize) -> End
+    ensures { λ r. ⌜ r ≡ declarationAt (now (s .entry)) at ⌝ }
 {
-    if !octets::stands_at(s, 0, b"<?xml") {
-        return End::At(0);
+    if !octets::stands_at(s, at, b"<?xml") {
+        return End::At(at);
     }
-    if !octets::is_space(octets::byte(s, 5)) {
+    if !octets::is_space(octets::byte(s, at + 5)) {
         return End::No;
     }
-    let e = declaration_end(s, 6);
+    let e = declaration_end(s, at + 6);
     if octets::stands_at(s, e, b"?>") {
         End::At(e + 2)
     } else {
@@ -56,7 +55,6 @@ fn misc_step(s: &[u8], i: usize) -> Step
 
 // Where the white space and comments end that begin at `at`.
 pub fn misc(s: &[u8], at: usize) -> End
-    requires { ⌜ at ≤ length (now s) ⌝ }
     ensures { λ r. ⌜ r ≡ miscAt (now (s .entry)) at ⌝ }
 {
     let mut i = at;

@@ -21,7 +21,6 @@ use Rattle.tags.specs.declared.Open.{Open}
 use Rattle.tags.specs.declared.Open.the-variants.{Full, Empty, Shut}
 use Rattle.markup.specs.Tree.{Tag, Forest, nil, text, elem, One, one, none, Held, held, bad, sealed, closed, opened, elemAt, contentAt}
 use Rattle.markup.specs.Document.{miscAt, ended, rooted}
-use Rattle.markup.proofs.Goes.{OneGoes, elem-goes}
 use Rattle.reads.specs.Leaves.{fresh}
 use Rattle.reads.specs.Names.{inside}
 use Rattle.reads.specs.declared.State.{State}
@@ -60,9 +59,6 @@ module _ (s p : List ℕ) (ok : Bool) (o : One) (r : Got) (got : r ≡ gotOne s 
         go : (x : One) → o ≡ x → gotOne s p (rootContext ok) (fresh (length s)) x .end ≡ At j → A
         go (one g kids k) u e = f g kids (u ∙ ap (one g kids) (at-is e))
         go none u e = absurd (differ e)
-
-    pub pass-in : (i : ℕ) → OneGoes s i o → j ≤ length s
-    pass-in i g = by-root (λ t kids u. (rw u at g) .in-it)
 
     pub pass-unended : miscAt s j ≡ No → refusedAs (length s) 5 ≡ passed s p ok (rooted s o)
     unfolding passed rooted ended

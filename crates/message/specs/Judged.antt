@@ -1,21 +1,20 @@
 -- What is read in an alert, judged: fields at fault, and numbers 7 to 10.
 use Prim.Native.Nat.{ℕ}
 use Prim.Native.String.{String}
-use mathlib.Core.Bool.{Bool, true, false, _&&_, _||_, not}
+use mathlib.Core.Bool.{Bool, _&&_, _||_, not}
 use mathlib.Core.List.{List, [], _∷_}
 use lib.ListN.{getD}
 use lib.Dec.{eqb, leb}
 use Rattle.octets.specs.Bytes.{pick, every, holds}
-use Rattle.clock.specs.Time.{timeOf}
+use Rattle.clock.specs.Time.{timeOf, isTime}
 use Rattle.clock.specs.declared.Time.{Time}
-use Rattle.clock.specs.declared.Time.the-variants.{At}
 use Rattle.values.specs.Value.{valueAt}
 use Rattle.reads.specs.Leaves.{blank, soundOf}
 use Rattle.reads.specs.declared.Leaf.{Leaf}
 use Rattle.reads.specs.declared.Info.{Info}
 use Rattle.reads.specs.declared.Alert.{Alert}
 use Rattle.fields.specs.Fields.{identityOk, indexIn, statuses, msgTypes, scopes}
-use Rattle.fields.specs.References.{isTime, referencesOk}
+use Rattle.fields.specs.References.{referencesOk}
 use Rattle.faults.specs.Field.{lowest}
 
 -- 0 identifier, 1 sender, 2 sent, 3 status, 4 msgType, 5 scope, 6 references
@@ -99,7 +98,3 @@ numberWith s field status scope kind references =
 
 abbrev pub numberOf : List ℕ → Alert → ℕ
 numberOf s a = numberWith s (fieldOf s a) (statusOf s a) (scopeOf s a) (msgTypeOf s a) (leafAt 6 a)
-
-abbrev pub instantIn : Time → ℕ
-instantIn (At n) = n
-instantIn Time.Bad = 0

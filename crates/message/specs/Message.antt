@@ -4,15 +4,16 @@ use mathlib.Core.Bool.{Bool, true, false}
 use mathlib.Core.List.{List}
 use lib.ListN.{length}
 use Rattle.octets.specs.Bytes.{pick, between}
-use Rattle.markup.specs.Tree.{Tag, Forest, One, one, none, elemAt}
-use Rattle.markup.specs.Document.{miscAt, rooted, rootAt, docAt}
+use Rattle.clock.specs.Time.{instantIn}
+use Rattle.markup.specs.Tree.{One, one, none}
+use Rattle.markup.specs.Document.{docAt}
 use Rattle.reads.specs.Leaves.{fresh}
 use Rattle.reads.specs.declared.Alert.{Alert}
 use Rattle.reads.specs.declared.Context.{Context}
 use Rattle.reads.specs.declared.Context.the-variants.{Root, Skipped}
 use Rattle.gather.specs.Read.{alertOf}
 use Rattle.message.specs.Root.{prefixOf, rootOk}
-use Rattle.message.specs.Judged.{leafAt, timed, msgTypeOf, fieldOf, numberOf, instantIn}
+use Rattle.message.specs.Judged.{leafAt, timed, msgTypeOf, fieldOf, numberOf}
 use Rattle.message.specs.declared.Message.{Message}
 
 -- a refusal returns its number, zeros elsewhere

@@ -1,6 +1,7 @@
 // A message read once, forward, and judged up to number 10.
 use clock::Time;
 use pieces::End;
+use reader::Reader;
 use reads::Alert;
 use reads::Context;
 use reads::Info;
@@ -12,12 +13,11 @@ ghost use Prim.Native.Nat.{_+_, _≤_};
 ghost use lib.ListN.{length};
 ghost use Rattle.octets.specs.Bytes.{pick, every, holds};
 ghost use Rattle.fields.specs.Fields.{statuses, msgTypes, scopes};
-ghost use Rattle.fields.specs.References.{isTime};
 ghost use Rattle.faults.specs.Field.{lowest};
 ghost use Rattle.markup.specs.Tree.{elemAt};
-ghost use Rattle.markup.specs.Document.{miscAt, rooted, rootAt};
+ghost use Rattle.markup.specs.Document.{rooted, docAt};
 ghost use Rattle.message.specs.Root.{colonAt, rootWith};
-ghost use Rattle.message.specs.Judged.{onlyOf, identified, timed, valued, infoOk, faultsWith, referenced, numberWith, instantIn};
+ghost use Rattle.message.specs.Judged.{onlyOf, identified, timed, valued, infoOk, faultsWith, referenced, numberWith};
 ghost use Rattle.message.specs.Message.{refusedAs, judged, passed, rootContext, ofRoot, messageOf};
 
 // What a message says: its number and field; kind, the msgType's (1 Alert, 2 Update, 3 Cancel, 4 Ack, 5 Error); the instant of sent; and what is read in its
@@ -155,24 +155,6 @@ fn is_info_sound(i: Info) -> bool
 
 // ---- the judgement
 
-fn seconds(t: Time) -> u32
-    ensures { λ r. ⌜ r ≡ instantIn t ⌝ }
-{
-    match t {
-        Time::At(n) => n,
-        Time::Bad => 0,
-    }
-}
-
-fn is_time(t: Time) -> bool
-    ensures { λ r. ⌜ r ≡ isTime t ⌝ }
-{
-    match t {
-        Time::At(_) => true,
-        Time::Bad => false,
-    }
-}
-
 fn field_with(s: &[u8], a: Alert, sent: Time, status: u32, kind: u32, scope: u32) -> u32
     ensures { λ r. ⌜ r ≡ lowest (faultsWith (now (s .entry)) a sent status kind scope) ⌝ }
 {
@@ -181,7 +163,7 @@ fn field_with(s: &[u8], a: Alert, sent: Time, status: u32, kind: u32, scope: u32
     let i = a.info;
     let no_identifier = !is_identified(s, identifier);
     let no_sender = !is_identified(s, sender);
-    let no_sent = !is_time(sent);
+    let no_sent = !clock::is_time(sent);
     let other = reads::either(a.fault, !is_info_sound(i));
     faults::field(
         no_identifier,
@@ -244,7 +226,7 @@ fn judge(s: &[u8], a: Alert) -> Message
         number: number_with(s, field, status, scope, kind, references),
         field: field,
         kind: kind,
-        sent: seconds(sent),
+        sent: clock::seconds(sent),
         alert: a,
     }
 }
@@ -339,16 +321,31 @@ fn read_root(s: &[u8], i: usize) -> Message
     pass(s, none, i, ok)
 }
 
-// The message behind its declaration, which ends at `at`.
-fn read_led(s: &[u8], at: usize) -> Message
-    requires { ⌜ at ≤ length (now s) ⌝ }
-    ensures { λ r. ⌜ r ≡ ofRoot (now (s .entry)) (rootAt (now (s .entry)) (miscAt (now (s .entry)) at)) ⌝ }
+// The same for any i: at the end of the message, or past it, no root begins.
+fn read_at(s: &[u8], i: usize) -> Message
+    ensures { λ r. ⌜ r ≡ ofRoot (now (s .entry)) (rooted (now (s .entry)) (elemAt (now (s .entry)) 12 i)) ⌝ }
 {
-    let m = markup::misc(s, at);
-    let End::At(i) = m else {
-        return refused(s.len(), 5);
-    };
+    let n = s.len();
+    if n <= i {
+        return refused(n, 5);
+    }
     read_root(s, i)
+}
+
+// ---- the message
+
+// The message from its root on, where the reader stands.
+fn read_rest<'a>(r: Reader<'a>) -> Message
+    ensures { λ m. ⌜ m ≡ ofRoot (now (r .entry .src)) (rooted (now (r .entry .src)) (elemAt (now (r .entry .src)) 12 (r .entry .at))) ⌝ }
+{
+    read_at(r.src, r.at)
+}
+
+// The message, by a reader that goes forward from the first byte.
+fn read_forward(s: &[u8]) -> Message
+    ensures { λ r. ⌜ r ≡ ofRoot (now (s .entry)) (docAt (now (s .entry))) ⌝ }
+{
+    read_rest(reader::lead(reader::new(s)))
 }
 
 // Reads and judges a message.
@@ -362,9 +359,5 @@ pub fn read(s: &[u8]) -> Message
     if 32768 < n {
         return refused(n, 4);
     }
-    let d = markup::declaration(s);
-    let End::At(a) = d else {
-        return refused(n, 5);
-    };
-    read_led(s, a)
+    read_forward(s)
 }

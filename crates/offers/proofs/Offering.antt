@@ -3,16 +3,14 @@
 --     offer-given                    the records of a message that answers 0, as they stand in a batch
 use Prim.Native.Nat.{ℕ, _+_, _*_, _≤_}
 use mathlib.Core.Path.{_≡_, refl, sym, ap, ap₂, _∙_}
-use mathlib.Core.Logic.{⊎-elim}
 use mathlib.Core.Bool.{Bool, true, false}
-use mathlib.Core.List.{List, [], _∷_}
+use mathlib.Core.List.{List}
 use native.Mathlib.Omega.{arith}
 use borrow.Author.Tests.{eq-eqb, ne-eqb}
 use lib.Dec.{eqb}
 use lib.ListN.{length, drop, replicate, length-replicate}
 use lib.Seq.{sets-eq}
 use Rattle.octets.specs.Bytes.{pick, every}
-use Rattle.octets.proofs.Tests.{every-first, every-rest}
 use Rattle.judgement.specs.Judged.{judgedOf}
 use Rattle.judgement.proofs.Answers.{number-small, field-small}
 use Rattle.judgement.specs.declared.Judged.{Judged}
@@ -20,6 +18,7 @@ use Rattle.records.specs.Record.{recordOk}
 use Rattle.records.proofs.Records.{record-long}
 use Rattle.ledger.specs.Sorted.{In}
 use Rattle.ledger.specs.Board.{records}
+use Rattle.ledger.proofs.Sorts.{every-in}
 use Rattle.slots.specs.Slots.{recs, flat}
 use Rattle.slots.proofs.Records.{recs-flat, flat-length}
 use Rattle.board.specs.Rules.{boardOk}
@@ -56,17 +55,10 @@ judged-small s = (omega (arith, number-small s), field-small s)
 
 -- ---- the batch
 
-each-long : (l : List (List ℕ)) → every recordOk l ≡ true → (r : List ℕ) → In r l → length r ≡ 384
-each-long [] h r i = absurd i
-each-long (x ∷ l) h r i = go (each-long l (every-rest recordOk x l h) r)
-  where
-    go : (In r l → length r ≡ 384) → length r ≡ 384
-    go f = ⊎-elim (λ p. ap length p ∙ record-long x (every-first recordOk x l h)) f i
-
 -- the records that were put into 17 empty ones are there
 batch-back : (rs : List (List ℕ)) (n : ℕ) (x : List ℕ) → every recordOk rs ≡ true → length rs ≤ 17 → Put (replicate 6528 0) rs n x → (n * 384 ≤ length x) × (recs n x ≡ rs)
 batch-back rs n x ok few p =
-    let long = each-long rs ok in
+    let long : (r : List ℕ) → In r rs → length r ≡ 384 = λ r i. record-long r (every-in recordOk rs ok r i) in
     let l = flat-length rs long in
     let d = length-replicate {A = ℕ} 6528 0 in
     let fits : 0 + length (flat rs) ≤ length (replicate {A = ℕ} 6528 0) = omega arith in

@@ -14,18 +14,18 @@ use lib.Seq.{sets, length-sets, take-all}
 use Rattle.octets.specs.Bytes.{pick, every, oneOf}
 use Rattle.octets.proofs.Tests.{each-of, every-first, every-rest}
 use Rattle.octets.proofs.Runs.{sets-append}
-use Rattle.clock.specs.Time.{timeOf}
+use Rattle.clock.specs.Time.{timeOf, instantIn}
 use Rattle.clock.specs.declared.Time.{Time}
-use Rattle.values.specs.Value.{valueAt, leadAt}
+use Rattle.values.specs.Value.{valueAt, restAt, leadAt}
 use Rattle.values.proofs.Steps.{value-start}
 use Rattle.fields.specs.References.{upTo, senderOf, identifierOf, groupOk, words, referencesOk}
-use Rattle.fields.specs.Words.{restAt, wordIn, nextWord, wordAt}
+use Rattle.fields.specs.Words.{wordIn, nextWord, wordAt}
 use Rattle.fields.specs.declared.Word.{Word}
 use Rattle.fields.proofs.Identities.{identity-short}
 use Rattle.fields.proofs.Buffers.{put-long, taken-back}
 use Rattle.fields.proofs.Groups.{groupTests, group-long, no-first, no-second, Parted, parted}
 use Rattle.fields.proofs.Words.{value-words, len-is, next-is, more-is}
-use Rattle.message.specs.Judged.{asksReferences, instantIn}
+use Rattle.message.specs.Judged.{asksReferences}
 use Rattle.judgement.specs.declared.Judged.{Judged}
 use Rattle.records.specs.Record.{pad, be4, keyOf, notice, withdrawal}
 use Rattle.records.proofs.ZeroFill.{pad-long, pad-whole}

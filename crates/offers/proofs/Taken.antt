@@ -2,7 +2,7 @@
 --     sound                       its sender, identifier and references
 --     shaped                      what it leaves has the lengths of a record's fields
 --     records-ok, records-few     its records keep theirs, and are 17 at most
-use Prim.Native.Nat.{ℕ, zero, suc, _+_, _≤_, _<_}
+use Prim.Native.Nat.{ℕ, zero, suc, _≤_, _<_}
 use mathlib.Core.Path.{_≡_, refl, sym, ap, _∙_, subst}
 use mathlib.Core.Logic.{⊎-elim}
 use mathlib.Core.Bool.{Bool, true, false, _&&_, not}
@@ -11,14 +11,12 @@ use native.Mathlib.Omega.{arith}
 use borrow.Author.Tests.{eqb-true, not-false}
 use lib.Dec.{eqb, leb}
 use lib.ListN.{length, getD, length-append}
-use Rattle.octets.specs.Bytes.{pick, every, between, part}
+use Rattle.octets.specs.Bytes.{pick, every, part}
 use Rattle.octets.proofs.Tests.{and-right, each-of, every-none, every-step, every-first, every-rest, every-append, between-high}
-use Rattle.clock.specs.Time.{span, timeOf}
+use Rattle.clock.specs.Time.{span, timeOf, instantIn}
 use Rattle.clock.specs.Stamp.{stamped}
 use Rattle.clock.specs.Written.{jjjhhmm}
-use Rattle.clock.specs.declared.Time.{Time}
-use Rattle.clock.specs.declared.Time.the-variants.{At}
-use Rattle.clock.proofs.Times.{accepted-inside}
+use Rattle.clock.proofs.Times.{instant-low}
 use Rattle.parts.specs.declared.Body.{Body}
 use Rattle.parts.proofs.Has.{has}
 use Rattle.header.specs.Body.{bodyBytes, timesPart, bodyForm}
@@ -30,16 +28,14 @@ use Rattle.fields.specs.References.{senderOf, identifierOf, sentOf, groupOk, wo
 use Rattle.fields.proofs.Identities.{identity-short}
 use Rattle.fields.proofs.Groups.{groupTests}
 use Rattle.faults.specs.Field.{onward, lowest}
-use Rattle.markup.specs.Tree.{One, one, none}
-use Rattle.markup.specs.Document.{docAt}
+use Rattle.markup.specs.Tree.{one}
 use Rattle.reads.specs.declared.Alert.{Alert}
 use Rattle.reads.specs.declared.Leaf.{Leaf}
 use Rattle.gather.specs.Read.{alertOf}
-use Rattle.message.specs.Root.{prefixOf, rootOk}
-use Rattle.message.specs.Judged.{leafAt, onlyOf, identified, timed, statusOf, msgTypeOf, scopeOf, referenced, asksReferences, faultsWith, fieldOf, numberWith, numberOf, instantIn}
-use Rattle.message.specs.Message.{judged, passed, ofRoot, messageOf}
+use Rattle.message.specs.Judged.{leafAt, onlyOf, identified, timed, statusOf, msgTypeOf, scopeOf, referenced, asksReferences, faultsWith, fieldOf, numberWith, numberOf}
+use Rattle.message.specs.Message.{judged, messageOf}
 use Rattle.message.specs.declared.Message.{Message}
-use Rattle.leaves.proofs.Fits.{sent-in}
+use Rattle.leaves.proofs.Fits.{message-holds, sent-in}
 use Rattle.judgement.specs.Judged.{bodyWith, judgedBy, judgedOf}
 use Rattle.judgement.specs.declared.Judged.{Judged}
 use Rattle.judgement.proofs.Bodies.{alerting, alert-body, body-ok, message-kept}
@@ -55,19 +51,9 @@ use Rattle.offers.specs.Records.{valueIn, ownIn, headerIn, namedBy, aler
 
 -- whatever holds of what is judged with 0 holds of a message that answers 0
 module _ (s : List ℕ) (P : Message → Type 0) (holding : (a : Alert) → numberOf s a ≡ 0 → P (judged s a)) where
-  by : (b : Bool) (x y : Message) → (x .number ≡ 0 → P x) → (y .number ≡ 0 → P y) → pick b x y .number ≡ 0 → P (pick b x y)
-  by true x y f g = f
-  by false x y f g = g
-
-  from-root : (o : One) → ofRoot s o .number ≡ 0 → P (ofRoot s o)
-  unfolding ofRoot passed judged
-  from-root none e = absurd (omega arith)
-  from-root (one g kids end) e =
-      by (rootOk s (g .from + 1) (g .name)) _ _ (holding (alertOf s (prefixOf s (g .from + 1) (g .name)) kids)) (λ n. absurd (omega arith)) e
-
   answering : messageOf s .number ≡ 0 → P (messageOf s)
-  unfolding messageOf
-  answering = by (between 1 32768 (length s)) _ _ (from-root (docAt s)) (λ e. absurd (omega arith))
+  unfolding judged
+  answering = message-holds s (λ (m : Message). m .number ≡ 0 → P m) (λ n k l z. absurd (omega arith)) (λ p t. holding (alertOf s p t))
 
 -- no field is at fault
 no-faults : (bs : List Bool) (i : ℕ) → lowest bs ≡ 0 → getD bs i false ≡ false
@@ -156,16 +142,9 @@ module _ (s : List ℕ) (zero : judgedOf s .number ≡ 0) where
 
 -- ---- its records
 
-time-low : (t : List ℕ) → instantIn (timeOf t) < span
-time-low t = go (timeOf t) refl
-  where
-    go : (x : Time) → timeOf t ≡ x → instantIn x < span
-    go (At n) e = accepted-inside t n e
-    go Time.Bad e = omega arith
-
 pub named-good : (w : List ℕ) → groupOk w ≡ true → recordOk (withdrawal (namedBy w)) ≡ true
 unfolding groupOk namedBy
-named-good w h = let t = each-of (groupTests w) h in withdrawal-ok (instantIn (timeOf (sentOf w))) (senderOf w) (identifierOf w) (time-low (sentOf w)) (t .0) (t .1 .0)
+named-good w h = let t = each-of (groupTests w) h in withdrawal-ok (instantIn (timeOf (sentOf w))) (senderOf w) (identifierOf w) (instant-low (sentOf w)) (t .0) (t .1 .0)
 
 withdrawals-good : (ws : List (List ℕ)) → every groupOk ws ≡ true → every recordOk (map withdrawal (map namedBy ws)) ≡ true
 withdrawals-good [] h = every-none recordOk

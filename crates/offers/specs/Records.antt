@@ -3,11 +3,11 @@ use Prim.Native.Nat.{ℕ}
 use mathlib.Core.List.{List, [], _∷_, map}
 use lib.Dec.{eqb}
 use Rattle.octets.specs.Bytes.{pick}
-use Rattle.clock.specs.Time.{timeOf}
+use Rattle.clock.specs.Time.{timeOf, instantIn}
 use Rattle.header.specs.Body.{bodyBytes}
 use Rattle.values.specs.Value.{valueAt}
 use Rattle.fields.specs.References.{senderOf, identifierOf, sentOf, words}
-use Rattle.message.specs.Judged.{leafAt, asksReferences, instantIn}
+use Rattle.message.specs.Judged.{leafAt, asksReferences}
 use Rattle.message.specs.declared.Message.{Message}
 use Rattle.judgement.specs.Judged.{judgedOf}
 use Rattle.judgement.specs.declared.Judged.{Judged}

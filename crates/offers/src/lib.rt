@@ -1,5 +1,4 @@
 // A message offered to a board: the records that it adds, and the call.
-use clock::Time;
 use fields::Word;
 use judgement::Judged;
 use records::Record;
@@ -12,7 +11,7 @@ ghost use lib.Seq.{sets};
 ghost use Rattle.values.specs.Value.{valueAt};
 ghost use Rattle.fields.specs.References.{groupOk, words, referencesOk};
 ghost use Rattle.fields.specs.Words.{wordIn, wordAt};
-ghost use Rattle.message.specs.Judged.{asksReferences, instantIn};
+ghost use Rattle.message.specs.Judged.{asksReferences};
 ghost use Rattle.judgement.specs.Judged.{judgedOf};
 ghost use Rattle.records.specs.Record.{notice, withdrawal};
 ghost use Rattle.ledger.specs.Board.{records};
@@ -29,15 +28,6 @@ pub struct Offered {
 
 // ---- withdrawals
 
-fn seconds(t: Time) -> u32
-    ensures { λ r. ⌜ r ≡ instantIn t ⌝ }
-{
-    match t {
-        Time::At(n) => n,
-        Time::Bad => 0,
-    }
-}
-
 // The withdrawal of the message that a group names.
 fn withdrawal_by(t: &[u8]) -> Record
     requires { ⌜ groupOk (now t) ≡ true ⌝ }
@@ -46,7 +36,7 @@ fn withdrawal_by(t: &[u8]) -> Record
     let a = fields::comma(t, 0);
     let b = fields::comma(t, a + 1);
     let sent = clock::instant(&t[b + 1..]);
-    Record::withdrawal(seconds(sent), &t[0..a], &t[a + 1..b])
+    Record::withdrawal(clock::seconds(sent), &t[0..a], &t[a + 1..b])
 }
 
 // Puts the withdrawal of the next reference as record k.

@@ -1,13 +1,13 @@
 -- What a body that a header has is known to have, one by one; and back.
 use Prim.Native.Nat.{ℕ, _≤_}
-use mathlib.Core.Bool.{true, false}
+use mathlib.Core.Bool.{true}
 use mathlib.Core.List.{List}
-use mathlib.Core.Path.{_≡_, refl}
+use mathlib.Core.Path.{_≡_}
 use native.Mathlib.Omega.{arith}
 use lib.ListN.{length, take, drop}
 use borrow.Author.Tests.{leb-true, eqb-true, le-leb, eq-eqb}
 use Rattle.octets.proofs.Tests.{each-of, every-of, between-low, between-high, between-is}
-use Rattle.octets.specs.Bytes.{every, between, isCapital}
+use Rattle.octets.specs.Bytes.{every, isCapital}
 use Rattle.parts.proofs.Periods.{period-high}
 use Rattle.parts.specs.Parts.{eventTests, eventOk, isLocation, isZero, locationsTests, locationsOk, isPeriod, timesTests, timesOk, bodyTests, bodyOk, stationTests, stationOk, noBody}
 use Rattle.parts.specs.declared.Body.{Body}
@@ -85,8 +85,3 @@ small b h =
 
 pub none-small : Small noBody
 none-small = record { count = omega arith; period = omega arith; day = omega arith; hour = omega arith; minute = omega arith }
-
--- zeros are no body
-pub no-body-not : bodyOk noBody ≡ false
-unfolding bodyOk eventOk every isCapital between
-no-body-not = refl

@@ -3,13 +3,12 @@ use Prim.Native.Nat.{ℕ, zero, suc, _+_, _-_, _≤_}
 use mathlib.Core.Bool.{true}
 use mathlib.Core.List.{List, [], _∷_, _++_}
 use mathlib.Core.Path.{_≡_, refl, sym, ap, ap₂, _∙_}
-use native.Mathlib.Nat.{sub-zero, zero-sub, suc-sub-suc}
 use native.Mathlib.Omega.{arith}
-use lib.Dec.{eqb}
 use lib.ListN.{length, take, drop, replicate, length-drop, take-append-drop}
 use lib.Seq.{sets-eq, length-sets, take-at, drop-at, length-take-le}
 use borrow.Author.Tests.{eqb-true}
-use Rattle.octets.proofs.Tests.{and-left, and-right}
+use Rattle.octets.proofs.Parts.{drop-zeros}
+use Rattle.octets.proofs.Tests.{every-first, every-rest, every-right}
 use Rattle.octets.specs.Bytes.{every}
 use Rattle.parts.specs.Asked.{padded}
 use Rattle.parts.specs.Parts.{isZero, noLocations}
@@ -28,31 +27,26 @@ module _ (ps : List ℕ) (n : ℕ) (long : length ps ≡ n) (few : n ≤ 31) whe
 
   pub padded-rest : every isZero (drop n (padded ps)) ≡ true
   unfolding every isZero
-  padded-rest = ap (λ (l : List ℕ). every isZero (drop n l)) (padded-form ps n long few) ∙ ap (every isZero) (drop-at ps (drop n noLocations) n long) ∙ zeros-left n noLocations refl
-    where
-      zeros-left : (n : ℕ) (l : List ℕ) → every isZero l ≡ true → every isZero (drop n l) ≡ true
-      zeros-left zero l h = h
-      zeros-left (suc n) [] h = h
-      zeros-left (suc n) (x ∷ l) h = zeros-left n l (and-right (isZero x) (every isZero l) h)
+  padded-rest =
+      ap (λ (l : List ℕ). every isZero (drop n l)) (padded-form ps n long few)
+      ∙ ap (every isZero) (drop-at ps (drop n noLocations) n long)
+      ∙ every-right isZero (take n noLocations) (drop n noLocations) (ap (every isZero) (take-append-drop n noLocations))
 
   pub padded-long : length (padded ps) ≡ 31
   padded-long = length-sets noLocations 0 ps
 
 -- ---- a list that has zeros behind its first n
 
-zeros : (l : List ℕ) → every isZero l ≡ true → l ≡ replicate (length l) 0
-unfolding every isZero
-zeros [] h = refl
-zeros (x ∷ l) h = ap₂ (λ (y : ℕ) (m : List ℕ). y ∷ m) (eqb-true x 0 (and-left (eqb x 0) (every isZero l) h)) (zeros l (and-right (eqb x 0) (every isZero l) h))
-
-drop-zeros : (n m : ℕ) → drop {A = ℕ} n (replicate m 0) ≡ replicate (m - n) 0
-drop-zeros zero m = rw sub-zero
-drop-zeros (suc n) zero = rw zero-sub
-drop-zeros (suc n) (suc m) = rw suc-sub-suc (drop-zeros n m)
+pub zeros-are : (l : List ℕ) (n : ℕ) → length l ≡ n → every isZero l ≡ true → l ≡ replicate n 0
+unfolding isZero
+zeros-are [] zero e h = refl
+zeros-are [] (suc n) e h = absurd (omega arith)
+zeros-are (x ∷ l) zero e h = absurd (omega arith)
+zeros-are (x ∷ l) (suc n) e h = ap₂ (λ (y : ℕ) (m : List ℕ). y ∷ m) (eqb-true x 0 (every-first isZero x l h)) (zeros-are l n (omega arith) (every-rest isZero x l h))
 
 pub padded-is : (l : List ℕ) (n : ℕ) → length l ≡ 31 → n ≤ 31 → every isZero (drop n l) ≡ true → padded (take n l) ≡ l
 padded-is l n h k z =
     let ld : length (drop n l) ≡ 31 - n = length-drop n l ∙ ap (λ (x : ℕ). x - n) h in
     padded-form (take n l) n (length-take-le n l (omega arith)) k
-    ∙ ap (λ (m : List ℕ). take n l ++ m) (drop-zeros n 31 ∙ ap (λ (x : ℕ). replicate x 0) (sym ld) ∙ sym (zeros (drop n l) z))
+    ∙ ap (λ (m : List ℕ). take n l ++ m) (drop-zeros n 31 ∙ sym (zeros-are (drop n l) (31 - n) ld z))
     ∙ take-append-drop n l

@@ -1,7 +1,7 @@
 -- Leaves as they are found, and nothing found yet.
 use Prim.Native.Nat.{ℕ}
 use mathlib.Core.Bool.{Bool, true, false, not}
-use mathlib.Core.List.{List, [], _∷_}
+use mathlib.Core.List.{[], _∷_}
 use lib.ListN.{replicate}
 use lib.Dec.{eqb, leb}
 use Rattle.octets.specs.Bytes.{pick, every, holds}

@@ -1,9 +1,9 @@
 -- What an eventCode, a parameter, a geocode, a resource and an info add to what has been read. n is a place, whose value is valueAt s n.
 use Prim.Native.Nat.{ℕ, _+_}
-use mathlib.Core.Bool.{Bool, true, false, _&&_, _||_, not}
-use mathlib.Core.List.{List, [], _∷_, map}
+use mathlib.Core.Bool.{Bool, true, _&&_, _||_, not}
+use mathlib.Core.List.{List, [], map}
 use lib.ListN.{length, getD, set}
-use lib.Dec.{eqb, leb, ltb}
+use lib.Dec.{eqb, leb}
 use Rattle.octets.specs.Bytes.{pick, between, same}
 use Rattle.octets.specs.Text.{bytes}
 use Rattle.octets.specs.declared.Num.{Num}
@@ -16,7 +16,7 @@ use Rattle.reads.specs.declared.Locations.{Locations}
 use Rattle.reads.specs.declared.Audio.{Audio}
 use Rattle.reads.specs.declared.Info.{Info}
 use Rattle.reads.specs.declared.Alert.{Alert}
-use Rattle.reads.specs.Leaves.{blank, marked, found, soundOf, pairOk}
+use Rattle.reads.specs.Leaves.{blank, found, soundOf, pairOk}
 
 -- the value at n is this text
 abbrev pub says : List ℕ → ℕ → List ℕ → Bool

@@ -8,10 +8,10 @@ ghost use Rattle.reads.specs.Leaves.{blank, marked, found, soundOf, pair
 ghost use Rattle.reads.specs.Names.{localAt, alertContext, infoContext, laterContext, pairContext, resourceContext, areaContext, contextOf};
 ghost use Rattle.reads.specs.Steps.{eventStep, parameterStep, placed, locationStep, audioOf, audioStep, english, infoStep, laterStep};
 
-// A leaf: how often it stands (0, 1, and 2 for more), where the value of the first begins, and whether one of them holds an element.
+// A leaf: where the value of the first begins, how often it stands (0, 1, and 2 for more), and whether one of them holds an element.
 pub struct Leaf {
-    pub count: u32,
     pub at: usize,
+    pub count: u32,
     pub holds: bool,
 }
 
@@ -37,10 +37,10 @@ pub struct Locations {
     pub fault: bool,
 }
 
-// The audio choice of the resources: its number, and where its uri begins; and whether a resource is at fault.
+// The audio choice of the resources: where its uri begins, and its number; and whether a resource is at fault.
 pub struct Audio {
-    pub number: u32,
     pub uri: usize,
+    pub number: u32,
     pub fault: bool,
 }
 
@@ -57,8 +57,8 @@ pub struct Info {
 // (1), or the one that is selected (2); and whether the language of one is at fault.
 pub struct Alert {
     pub leaf: [Leaf; 7],
-    pub kept: u32,
     pub info: Info,
+    pub kept: u32,
     pub fault: bool,
 }
 

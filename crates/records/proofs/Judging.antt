@@ -1,24 +1,27 @@
 -- What the tests of a field and of a record answer, one after the other. n bytes of the field f stand before its first zero byte.
---     value-bad, rest-decides      a zero-filled field
---     stamp-bad, header-decides    a header, zero-filled, whose JJJHHMM is that of sent
+--     value-bad, rest-decides          a zero-filled field
+--     read-no, read-yes                what is read in one that is to be a header
+--     number-decides, stamp-decides    a header, zero-filled, and one whose JJJHHMM is that of sent
 use Prim.Native.Nat.{ℕ, _-_, _≤_, _<_}
-use mathlib.Core.Bool.{Bool, true, false, and-true, and-false}
+use mathlib.Core.Bool.{Bool, true, false, and-false}
 use mathlib.Core.List.{List, [], _∷_}
-use mathlib.Core.Path.{_≡_, sym, ap, _∙_}
+use mathlib.Core.Path.{_≡_, refl, sym, ap, _∙_}
 use native.Mathlib.Omega.{arith}
+use borrow.Author.Tests.{eqb-true, eqb-false}
+use lib.Dec.{eqb}
 use lib.ListN.{length, take, drop, length-drop}
 use lib.Seq.{take-all}
-use Rattle.octets.specs.Bytes.{every, holds, same}
-use Rattle.octets.proofs.Tests.{one-fails}
+use Rattle.octets.specs.Bytes.{pick, every, holds, same}
+use Rattle.octets.proofs.Tests.{every-of, one-fails}
 use Rattle.octets.proofs.Everys.{last-decides}
 use Rattle.clock.specs.Time.{span}
 use Rattle.clock.specs.Stamp.{stamped}
 use Rattle.parts.specs.declared.Body.{Body}
-use Rattle.header.specs.Body.{bodyForm, bodyOf, readBodyOf}
+use Rattle.header.specs.Body.{bodyForm, bodyOf, bodyRefusal, readBodyOf}
 use Rattle.header.specs.declared.BodyRead.{BodyRead}
 use Rattle.header.proofs.Reading.{body-zero, body-other}
 use Rattle.fields.proofs.Partings.{upTo-take, upTo-short}
-use Rattle.records.specs.Record.{zeros, filledIn, filledTests, zeroFilled, headerOk, stampIn}
+use Rattle.records.specs.Record.{zeros, filledIn, filledTests, zeroFilled, headerOk, readIn, stampIn}
 use Rattle.records.proofs.Stamps.{on, stamp-is}
 
 module _ (f : List ℕ) (n : ℕ) (e : n ≡ length (filledIn f)) where
@@ -40,31 +43,63 @@ module _ (f : List ℕ) (n : ℕ) (e : n ≡ length (filledIn f)) where
     unfolding zeroFilled
     rest-decides h b z = z ∙ ap zeros rest-is ∙ sym (last-decides (ok (filledIn f) ∷ []) (zeros (drop (length (filledIn f)) f)) (sym (ap ok value-is) ∙ h, tt))
 
-  -- the header that was read from the field
-  module _ (read : BodyRead) (r : read ≡ readBodyOf (take (n - 0) (drop 0 f))) where
-    pub form-bad : (read .number ≡ 0 → ⊥) → bodyForm (take (n - 0) (drop 0 f)) ≡ false
-    form-bad h = body-other _ (λ z. h (ap (λ (x : BodyRead). x .number) r ∙ z))
+  -- the header that is read in it
+  module _ (z : Bool) (zs : z ≡ zeros (take (length f - n) (drop n f))) where
+    zeros-told : zeros (drop (length (filledIn f)) f) ≡ z
+    zeros-told = sym (zs ∙ ap zeros rest-is)
 
-    pub form-good : read .number ≡ 0 → bodyForm (take (n - 0) (drop 0 f)) ≡ true
-    form-good h = body-zero _ (sym (ap (λ (x : BodyRead). x .number) r) ∙ h) .0
+    pub read-no : z ≡ false → readIn f ≡ bodyRefusal
+    unfolding readIn
+    read-no h = rw (zeros-told ∙ h)
 
-    module _ (zero : read .number ≡ 0) (sent : ℕ) (low : sent < span) where
-      form : bodyForm (filledIn f) ≡ true
-      form = sym (ap bodyForm value-is) ∙ form-good zero
+    pub read-yes : z ≡ true → readIn f ≡ readBodyOf (take (n - 0) (drop 0 f))
+    unfolding readIn
+    read-yes h = rw (zeros-told ∙ h) (sym (ap readBodyOf value-is))
 
-      body-is : bodyOf (filledIn f) ≡ read .body
-      body-is = sym (ap (λ (x : BodyRead). x .body) r ∙ body-zero _ (sym (ap (λ (x : BodyRead). x .number) r) ∙ zero) .1 ∙ ap bodyOf value-is)
+-- ---- a header, zero-filled, from what is read in it
 
-      stamp-told : (t : Bool) → t ≡ every holds (on (read .body) sent) → same (stampIn f) (stamped sent) ≡ t
-      unfolding stampIn
-      stamp-told t h = stamp-is (filledIn f) sent form low ∙ ap (λ (b : Body). every holds (on b sent)) body-is ∙ sym h
+record Header (f : List ℕ) (read : BodyRead) : Type 0 where
+  pub is : headerOk f ≡ true
+  pub form : bodyForm (filledIn f) ≡ true
+  pub body : bodyOf (filledIn f) ≡ read .body
 
-      pub stamp-bad : (t : Bool) → t ≡ every holds (on (read .body) sent) → t ≡ false → every holds (headerOk f ∷ same (stampIn f) (stamped sent) ∷ []) ≡ false
-      stamp-bad t h e = one-fails 1 (headerOk f ∷ same (stampIn f) (stamped sent) ∷ []) (stamp-told t h ∙ e)
+module _ (f : List ℕ) (read : BodyRead) (r : read ≡ readIn f) where
+  header-read : read .number ≡ 0 → Header f read
+  unfolding readIn headerOk zeroFilled
+  header-read h = go (zeros (drop (length (filledIn f)) f)) refl r
+    where
+      go : (z : Bool) → zeros (drop (length (filledIn f)) f) ≡ z → read ≡ pick z (readBodyOf (filledIn f)) bodyRefusal → Header f read
+      go true e q =
+          let b = body-zero (filledIn f) (sym (ap (λ (x : BodyRead). x .number) q) ∙ h) in
+          record { is = every-of (filledTests bodyForm f) (b .0, (e, tt)); form = b .0; body = sym (ap (λ (x : BodyRead). x .body) q ∙ b .1) }
+      go false e q = let n : _≡_ {A = ℕ} 17 0 = sym (ap (λ (x : BodyRead). x .number) q) ∙ h in absurd (omega arith)
 
-      pub header-decides : (t : Bool) → t ≡ every holds (on (read .body) sent) → t ≡ true → (b : Bool) → b ≡ zeros (take (length f - n) (drop n f)) → b ≡ every holds (headerOk f ∷ same (stampIn f) (stamped sent) ∷ [])
-      unfolding headerOk every
-      header-decides t h e b z = let s = stamp-told t h ∙ e in rest-decides bodyForm (form-good zero) b z ∙ sym (rw (s, and-true))
+  header-bad : (read .number ≡ 0 → ⊥) → headerOk f ≡ false
+  unfolding readIn headerOk zeroFilled
+  header-bad h = go (zeros (drop (length (filledIn f)) f)) refl r
+    where
+      go : (z : Bool) → zeros (drop (length (filledIn f)) f) ≡ z → read ≡ pick z (readBodyOf (filledIn f)) bodyRefusal → every holds (filledTests bodyForm f) ≡ false
+      go true e q = one-fails 0 (filledTests bodyForm f) (body-other (filledIn f) (λ n. h (ap (λ (x : BodyRead). x .number) q ∙ n)))
+      go false e q = one-fails 1 (filledTests bodyForm f) e
+
+  pub number-decides : eqb (read .number) 0 ≡ headerOk f
+  number-decides = go (eqb (read .number) 0) refl
+    where
+      go : (b : Bool) → eqb (read .number) 0 ≡ b → b ≡ headerOk f
+      go true e = sym (header-read (eqb-true (read .number) 0 e) .is)
+      go false e = sym (header-bad (eqb-false (read .number) 0 e))
+
+  -- whose JJJHHMM is that of sent
+  module _ (sent : ℕ) (low : sent < span) where
+    pub header-not : (read .number ≡ 0 → ⊥) → every holds (headerOk f ∷ same (stampIn f) (stamped sent) ∷ []) ≡ false
+    header-not h = one-fails 0 (headerOk f ∷ same (stampIn f) (stamped sent) ∷ []) (header-bad h)
+
+    pub stamp-decides : read .number ≡ 0 → (t : Bool) → t ≡ every holds (on (read .body) sent) → t ≡ every holds (headerOk f ∷ same (stampIn f) (stamped sent) ∷ [])
+    unfolding stampIn
+    stamp-decides z t h =
+        let d = header-read z in
+        h ∙ ap (λ (b : Body). every holds (on b sent)) (sym (d .body)) ∙ sym (stamp-is (filledIn f) sent (d .form) low)
+        ∙ sym (last-decides (headerOk f ∷ []) (same (stampIn f) (stamped sent)) (d .is, tt))
 
 -- ---- a notice: its key, its header with JJJHHMM, its last bytes
 

@@ -1,18 +1,14 @@
 -- A record is made field by field: what is put so far, and zeros behind it.
-use Prim.Native.Nat.{ℕ, zero, suc, _+_, _-_, _≤_}
+use Prim.Native.Nat.{ℕ, suc, _+_, _-_, _≤_}
 use mathlib.Core.Path.{_≡_, refl, sym, ap, ap₂, _∙_}
 use mathlib.Core.List.{List, [], _∷_, _++_, append-assoc, append-nil}
 use native.Mathlib.Omega.{arith}
 use lib.ListN.{length, take, drop, set, replicate, length-append, length-replicate, replicate-append-replicate}
 use lib.Seq.{sets, sets-eq, take-at, drop-at, drop-drop}
+use Rattle.octets.proofs.Parts.{drop-zeros}
 use Rattle.records.specs.Record.{pad, be4, keyOf, notice, withdrawal, aired}
 use Rattle.records.proofs.ZeroFill.{pad-long, pad-whole}
 use Rattle.records.proofs.Records.{key-of-long}
-
-drop-zeros : (a m : ℕ) → drop a (replicate {A = ℕ} m 0) ≡ replicate (m - a) 0
-drop-zeros zero m = ap (λ (k : ℕ). replicate k 0) (let q : m ≡ m - 0 = omega arith in q)
-drop-zeros (suc a) zero = ap (λ (k : ℕ). replicate k 0) (let q : 0 ≡ 0 - suc a = omega arith in q)
-drop-zeros (suc a) (suc m) = drop-zeros a m ∙ ap (λ (k : ℕ). replicate k 0) (let q : m - a ≡ suc m - suc a = omega arith in q)
 
 -- a field of n bytes is put behind p, where m zeros were
 module _ (p b x v : List ℕ) (at m n : ℕ) (e : b ≡ p ++ replicate m 0) (l : length p ≡ at) (s : length v ≤ n) (r : n ≤ m) (put : x ≡ sets b at v) where

@@ -1,7 +1,6 @@
 -- The laws of a record.
 --     record-long, record-kind        384 bytes, of kind 1, 2 or 3
 --     key-notice, header-notice, ..   what a maker was given stands in its field
---     notice-is                       a notice is what its maker makes of its key and its header
 --     notice-ok, withdrawal-ok        parts that keep their rules make records that keep theirs
 --     airs-ok                         and so does the aired record of a notice's header
 use Prim.Native.Nat.{ℕ, _≤_, _<_}
@@ -11,12 +10,12 @@ use mathlib.Core.Path.{_≡_, refl, sym, ap, ap₂, _∙_}
 use native.Mathlib.Omega.{arith}
 use borrow.Author.Tests.{eqb-true, eq-eqb, lt-ltb, ltb-true}
 use lib.Dec.{eqb}
-use lib.ListN.{length, take, drop, replicate, length-append, length-replicate, length-drop, take-append-drop}
+use lib.ListN.{length, take, drop, replicate, length-append, length-replicate}
 use lib.Seq.{take-at, drop-at, take-all}
 use Rattle.octets.specs.Bytes.{every, holds, part, same}
-use Rattle.octets.proofs.Tests.{Each, each-of, every-of}
+use Rattle.octets.proofs.Tests.{never, Each, each-of, every-of}
 use Rattle.octets.proofs.Everys.{last-decides}
-use Rattle.octets.proofs.Parts.{length-part, cut}
+use Rattle.octets.proofs.Parts.{length-part}
 use Rattle.octets.proofs.Sames.{same-refl}
 use Rattle.clock.specs.Time.{span}
 use Rattle.clock.specs.Stamp.{stamped}
@@ -25,7 +24,7 @@ use Rattle.header.proofs.Reading.{body-long}
 use Rattle.fields.specs.Fields.{identityOk}
 use Rattle.fields.proofs.Identities.{identity-short}
 use Rattle.records.specs.Record.{kind, key, sentIn, senderIn, identifierIn, header, rest, zeros, zeroFilled, keyTests, keyOk, headerOk, stampIn, noticeTests, kindTests, recordTests, recordOk, pad, keyOf, notice, withdrawal, aired}
-use Rattle.records.proofs.ZeroFill.{zeros-made, zeros-are, pad-long, filled-pad, filled-ok, identity-full, body-full}
+use Rattle.records.proofs.ZeroFill.{zeros-made, pad-long, filled-pad, filled-ok, identity-full, body-full}
 
 -- ---- what a record keeps
 
@@ -67,11 +66,7 @@ unfolding recordOk
 kind-decides r n l e = last-decides (eqb (length r) 384 ∷ []) (every holds (kindTests (kind r) r)) (eq-eqb (length r) 384 l, tt) ∙ ap (λ (k : ℕ). every holds (kindTests k r)) e
 
 pub no-kind : (r : List ℕ) → (kind r ≡ 1 → ⊥) → (kind r ≡ 2 → ⊥) → (kind r ≡ 3 → ⊥) → recordOk r ≡ false
-no-kind r a b d = go (recordOk r) refl
-  where
-    go : (x : Bool) → recordOk r ≡ x → x ≡ false
-    go true e = let k = record-kind r e in absurd (omega arith)
-    go false e = refl
+no-kind r a b d = never (recordOk r) (λ e. let k = record-kind r e in omega arith)
 
 -- sent is below 3,155,760,000
 pub key-low : (k : List ℕ) → keyOk k ≡ true → sentIn k < span
@@ -156,30 +151,9 @@ withdrawal-inj j k e = append-cancel-right j k (replicate 251 0) (tail-eq-of-con
 -- ---- a record by its fields
 
 module _ (r : List ℕ) (l : length r ≡ 384) where
-  pub key-long : length (key r) ≡ 132
-  unfolding key
-  key-long = length-part r 1 132 (omega arith)
-
   pub header-long : length (header r) ≡ 243
   unfolding header
   header-long = length-part r 133 243 (omega arith)
-
-  rest-long : length (rest r) ≡ 8
-  unfolding rest
-  rest-long = length-part r 376 8 (omega arith)
-
-by-fields : (r : List ℕ) → length r ≡ 384 → r ≡ kind r ∷ (key r ++ (header r ++ rest r))
-unfolding key header rest
-by-fields [] l = absurd (omega arith)
-by-fields (x ∷ t) l =
-    let e : length (drop 375 t) ≤ 8 = omega (arith, length-drop 375 t) in
-    ap (λ (m : List ℕ). x ∷ m) (sym (take-append-drop 132 t) ∙ ap (λ (m : List ℕ). take 132 t ++ m) (cut t 132 243 ∙ ap (λ (m : List ℕ). part t 132 243 ++ m) (sym (take-all 8 (drop 375 t) e))))
-
-pub notice-is : (r : List ℕ) → recordOk r ≡ true → kind r ≡ 1 → r ≡ notice (key r) (header r)
-unfolding notice
-notice-is r h e =
-    let l = record-long r h in
-    by-fields r l ∙ ap₂ (λ (n : ℕ) (z : List ℕ). n ∷ (key r ++ (header r ++ z))) e (zeros-are (rest r) 8 (rest-long r l) (of-notice r h e .1 .1 .1 .0))
 
 -- ---- parts that keep their rules
 
@@ -202,10 +176,6 @@ made-aired h l ok =
 
 pub airs-ok : (r : List ℕ) → recordOk r ≡ true → kind r ≡ 1 → recordOk (aired (header r)) ≡ true
 airs-ok r h e = made-aired (header r) (header-long r (record-long r h)) (of-notice r h e .1 .0)
-
--- the withdrawal of a notice too
-pub withdrawn-ok : (r : List ℕ) → recordOk r ≡ true → kind r ≡ 1 → recordOk (withdrawal (key r)) ≡ true
-withdrawn-ok r h e = withdraws-ok (key r) (key-long r (record-long r h)) (of-notice r h e .0)
 
 module _ (sent : ℕ) (sender identifier : List ℕ) where
   pub key-of-long : length sender ≤ 64 → length identifier ≤ 64 → length (keyOf sent sender identifier) ≡ 132

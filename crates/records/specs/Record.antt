@@ -9,7 +9,8 @@ use Rattle.octets.specs.Bytes.{pick, every, holds, byteAt, part, same}
 use Rattle.clock.specs.Time.{span}
 use Rattle.clock.specs.Stamp.{stamped}
 use Rattle.parts.specs.Parts.{isZero}
-use Rattle.header.specs.Body.{timesPart, bodyForm}
+use Rattle.header.specs.Body.{timesPart, bodyForm, bodyRefusal, readBodyOf}
+use Rattle.header.specs.declared.BodyRead.{BodyRead}
 use Rattle.fields.specs.Fields.{identityOk}
 use Rattle.fields.specs.References.{upTo}
 
@@ -69,6 +70,10 @@ keyOk k = every holds (keyTests k)
 -- the header, zero-filled
 unfoldable pub headerOk : List ℕ → Bool
 headerOk h = zeroFilled bodyForm h
+
+-- what is read in it: its parts, or 17
+unfoldable pub readIn : List ℕ → BodyRead
+readIn h = pick (zeros (drop (length (filledIn h)) h)) (readBodyOf (filledIn h)) bodyRefusal
 
 -- its JJJHHMM, in `+TTTT-JJJHHMM-`
 unfoldable pub stampIn : List ℕ → List ℕ

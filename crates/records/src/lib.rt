@@ -1,4 +1,5 @@
 // One record of the board: its makers, and the rules that it keeps.
+use header::BodyRead;
 use parts::Body;
 ghost use mathlib.Core.Path.{_≡_};
 ghost use mathlib.Core.List.{[], _∷_, _++_};
@@ -9,7 +10,7 @@ ghost use Rattle.octets.specs.Bytes.{every, holds, same};
 ghost use Rattle.clock.specs.Time.{span};
 ghost use Rattle.clock.specs.Stamp.{stampOf, stamped};
 ghost use Rattle.fields.specs.Fields.{identityOk};
-ghost use Rattle.records.specs.Record.{sentIn, zeros, filledIn, zeroFilled, keyOk, headerOk, stampIn, noticeTests, withdrawalTests, airedTests, recordOk, pad, be4, keyOf, notice, withdrawal, aired};
+ghost use Rattle.records.specs.Record.{sentIn, zeros, filledIn, zeroFilled, keyOk, headerOk, readIn, stampIn, noticeTests, withdrawalTests, airedTests, recordOk, pad, be4, keyOf, notice, withdrawal, aired};
 
 pub struct Record {
     pub bytes: [u8; Record::SIZE],
@@ -176,16 +177,23 @@ fn is_key(k: &[u8]) -> bool
     is_name(&k[Record::IDENTIFIER - Record::SENT..Record::HEADER - Record::SENT])
 }
 
+// The header that a field is, zero-filled, or 17.
+fn header_in(h: &[u8]) -> BodyRead
+    ensures { λ r. ⌜ r ≡ readIn (now (h .entry)) ⌝ }
+{
+    let n = filled(h);
+    if !are_zeros(&h[n..]) {
+        return header::refused_body();
+    }
+    header::read_body(&h[0..n])
+}
+
 // Whether h is a header, zero-filled.
 fn is_header(h: &[u8]) -> bool
     ensures { λ r. ⌜ r ≡ headerOk (now (h .entry)) ⌝ }
 {
-    let n = filled(h);
-    let read = header::read_body(&h[0..n]);
-    if read.number != 0 {
-        return false;
-    }
-    are_zeros(&h[n..])
+    let read = header_in(h);
+    read.number == 0
 }
 
 // Whether the day, hour and minute of a header are those of sent.
@@ -208,16 +216,12 @@ fn is_header_of(h: &[u8], sent: u32) -> bool
     requires { ⌜ sent < span ⌝ }
     ensures { λ r. ⌜ r ≡ every holds (headerOk (now (h .entry)) ∷ same (stampIn (now (h .entry))) (stamped sent) ∷ []) ⌝ }
 {
-    let n = filled(h);
-    let read = header::read_body(&h[0..n]);
+    let read = header_in(h);
     if read.number != 0 {
         return false;
     }
     let body = read.body;
-    if !is_on(body, sent) {
-        return false;
-    }
-    are_zeros(&h[n..])
+    is_on(body, sent)
 }
 
 fn is_notice(r: &[u8]) -> bool

@@ -8,7 +8,7 @@ use borrow.Author.Tests.{ltb-false}
 use lib.Dec.{ltb}
 use lib.ListN.{length}
 use Rattle.octets.specs.Text.{bytes}
-use Rattle.wording.proofs.Cuts.{pick-as}
+use Rattle.octets.proofs.Tests.{either-way}
 use Rattle.convert.proofs.Answers.{convert-small}
 use Rattle.convert.specs.Convert.{Given, convertOf, answerOf}
 use Rattle.report.specs.Program.{benchOf, printed, programOf}
@@ -31,6 +31,6 @@ printed-le message =
 pub program-le : (room : ℕ) (message : List ℕ) → length (programOf room message) ≤ room
 unfolding programOf
 program-le room message =
-    pick-as (AtMost room) (ltb room 4096) [] (printed (benchOf message))
+    either-way (AtMost room) (ltb room 4096) [] (printed (benchOf message))
     (λ e. omega arith)
     (λ e. omega (arith, ltb-false room 4096 e, printed-le message))

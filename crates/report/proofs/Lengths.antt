@@ -9,7 +9,7 @@ use lib.ListN.{length, length-append}
 use Rattle.octets.proofs.Numbers.{length-digits}
 use Rattle.octets.specs.Digits.{digits}
 use Rattle.octets.specs.Text.{bytes}
-use Rattle.wording.proofs.Cuts.{pick-as}
+use Rattle.octets.proofs.Tests.{either-way}
 use Rattle.report.specs.Lines.{decimal, line, orNone, spaced, audioWords, numberLine, valueLine, audioLine, carryLine, alertLines, linesOf}
 
 abbrev pub AtMost : ℕ → List ℕ → Type 0
@@ -17,7 +17,7 @@ AtMost n l = length l ≤ n
 
 decimal-le : (n : ℕ) → length (decimal n) ≤ 2
 unfolding decimal
-decimal-le n = pick-as (AtMost 2) (ltb n 10) (digits 1 n) (digits 2 n) (λ e. omega (arith, length-digits 1 n)) (λ e. omega (arith, length-digits 2 n))
+decimal-le n = either-way (AtMost 2) (ltb n 10) (digits 1 n) (digits 2 n) (λ e. omega (arith, length-digits 1 n)) (λ e. omega (arith, length-digits 2 n))
 
 number-le : (number field : ℕ) → length (numberLine number field) ≤ 19
 unfolding numberLine line bytes
@@ -25,7 +25,7 @@ number-le number field = simp length-append (omega (arith, decimal-le number, de
 
 value-le : (name v : List ℕ) (n : ℕ) → 4 ≤ n → length v ≤ n → length (valueLine name v) ≤ length name + n + 1
 unfolding valueLine line orNone bytes
-value-le name v n k h = simp length-append (omega (arith, pick-as (AtMost n) (eqb (length v) 0) (bytes "none") v (λ e. k) (λ e. h)))
+value-le name v n k h = simp length-append (omega (arith, either-way (AtMost n) (eqb (length v) 0) (bytes "none") v (λ e. k) (λ e. h)))
 
 spaced-le : (kind uri : List ℕ) (n : ℕ) → length kind ≤ 6 → length uri ≤ n → length (spaced kind uri) ≤ n + 7
 unfolding spaced bytes
@@ -34,9 +34,9 @@ spaced-le kind uri n k h = simp length-append (omega arith)
 audio-words-le : (audio : ℕ) (uri : List ℕ) (n : ℕ) → length uri ≤ n → length (audioWords audio uri) ≤ n + 7
 unfolding audioWords bytes
 audio-words-le audio uri n h =
-    pick-as (AtMost (n + 7)) (eqb audio 1) _ _ (λ e. spaced-le (bytes "mp3") uri n (lit≤ tt) h)
-    (λ e. pick-as (AtMost (n + 7)) (eqb audio 2) _ _ (λ e. spaced-le (bytes "wav") uri n (lit≤ tt) h)
-    (λ e. pick-as (AtMost (n + 7)) (eqb audio 3) _ _ (λ e. spaced-le (bytes "stream") uri n (lit≤ tt) h) (λ e. omega arith)))
+    either-way (AtMost (n + 7)) (eqb audio 1) _ _ (λ e. spaced-le (bytes "mp3") uri n (lit≤ tt) h)
+    (λ e. either-way (AtMost (n + 7)) (eqb audio 2) _ _ (λ e. spaced-le (bytes "wav") uri n (lit≤ tt) h)
+    (λ e. either-way (AtMost (n + 7)) (eqb audio 3) _ _ (λ e. spaced-le (bytes "stream") uri n (lit≤ tt) h) (λ e. omega arith)))
 
 audio-le : (audio : ℕ) (uri : List ℕ) (n : ℕ) → length uri ≤ n → length (audioLine audio uri) ≤ n + 14
 unfolding audioLine line bytes
@@ -54,4 +54,4 @@ alert-le header audio uri carry text h u t = simp length-append (omega (arith, v
 pub lines-le : (number field : ℕ) (header : List ℕ) (audio : ℕ) (uri : List ℕ) (carry : Bool) (text : List ℕ) → length header ≤ 252 → length uri ≤ 1024 → length text ≤ 1800 → length (linesOf number field header audio uri carry text) ≤ 3200
 unfolding linesOf
 lines-le number field header audio uri carry text h u t =
-    simp length-append (omega (arith, number-le number field, pick-as (AtMost 3114) (eqb number 0) (alertLines header audio uri carry text) [] (λ e. alert-le header audio uri carry text h u t) (λ e. lit≤ tt)))
+    simp length-append (omega (arith, number-le number field, either-way (AtMost 3114) (eqb number 0) (alertLines header audio uri carry text) [] (λ e. alert-le header audio uri carry text h u t) (λ e. lit≤ tt)))

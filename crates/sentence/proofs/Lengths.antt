@@ -1,7 +1,7 @@
 -- How long the sentence and its pieces are.
 --     sentence-le     at most 389 characters
 use Prim.Native.Nat.{ℕ, _+_, _*_, _≤_, min}
-use mathlib.Core.Bool.{Bool, true, false}
+use mathlib.Core.Bool.{Bool, true}
 use mathlib.Core.List.{List, [], _∷_}
 use mathlib.Core.Path.{_≡_, refl}
 use native.Mathlib.Omega.{arith}
@@ -9,8 +9,8 @@ use lib.Dec.{lit≤, leb}
 use lib.ListN.{length, take, length-append, length-take}
 use borrow.Author.Tests.{leb-true}
 use Rattle.octets.proofs.Numbers.{length-digits}
-use Rattle.octets.proofs.Tests.{every-first, every-rest}
-use Rattle.octets.specs.Bytes.{pick, every, same}
+use Rattle.octets.proofs.Tests.{every-first, every-rest, either-way}
+use Rattle.octets.specs.Bytes.{every, same}
 use Rattle.octets.specs.Text.{bytes}
 use Rattle.parts.specs.declared.Body.{Body}
 use Rattle.parts.specs.declared.Originator.{Originator}
@@ -28,15 +28,12 @@ org-le Civ = lit≤ tt
 abbrev short : ℕ → Event → Bool
 short n r = leb (length (r .words)) n
 
-pick-le : (b : Bool) (x y : List ℕ) (n : ℕ) → length x ≤ n → length y ≤ n → length (pick b x y) ≤ n
-pick-le true x y n h k = h
-pick-le false x y n h k = k
-
 words-le : (rs : List Event) (e : List ℕ) (n : ℕ) → every (short n) rs ≡ true → 6 + length e ≤ n → length (wordsIn rs e) ≤ n
 unfolding wordsIn bytes
 words-le [] e n t h = omega arith
 words-le (r ∷ rs) e n t h =
-    pick-le (same e (r .code)) (r .words) (wordsIn rs e) n (leb-true (length (r .words)) n (every-first (short n) r rs t)) (words-le rs e n (every-rest (short n) r rs t) h)
+    either-way (λ (l : List ℕ). length l ≤ n) (same e (r .code)) (r .words) (wordsIn rs e)
+    (λ _. leb-true (length (r .words)) n (every-first (short n) r rs t)) (λ _. words-le rs e n (every-rest (short n) r rs t) h)
 
 pub event-le : (e : List ℕ) → length e ≡ 3 → length (eventWords e) ≤ 29
 unfolding bytes every

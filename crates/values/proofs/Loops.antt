@@ -1,10 +1,10 @@
 -- The loops that read a value character by character: at the place i, k characters of the value v are behind.
---     Reading      read-starts, read-more, read-done        the loop's beginning, a turn, and its end
+--     Reading      read-starts, read-more, read-mark, read-done   the loop's beginning, a turn, and its end
 --     Matching     the same while v, seen through f, is compared with w
 --     Copying      the same while the first g characters of v are put into d from `to` on
 use Prim.Native.Nat.{ℕ, _+_, _<_, _≤_}
 use mathlib.Core.Path.{_≡_, refl, sym, ap, ap₂, _∙_}
-use mathlib.Core.Bool.{false}
+use mathlib.Core.Bool.{Bool, true, false}
 use mathlib.Core.List.{List, [], _∷_, map}
 use native.Mathlib.Nat.{add-zero}
 use native.Mathlib.Omega.{arith}
@@ -13,14 +13,14 @@ use borrow.Author.Tests.{eq-eqb, ne-eqb}
 use lib.Dec.{eqb}
 use lib.ListN.{length, take, drop, getD, set, length-take, length-drop, length-set, drop-of-length-le}
 use lib.Seq.{sets, getD-take}
-use Rattle.octets.specs.Bytes.{same}
+use Rattle.octets.specs.Bytes.{byteAt, same}
 use Rattle.octets.proofs.Parts.{tail-step}
 use Rattle.octets.proofs.Runs.{copy-step}
 use Rattle.octets.proofs.Sames.{same-step, same-stop}
 use Rattle.pieces.proofs.Goes.{Goes}
-use Rattle.values.specs.Value.{valueAt, leadAt, stepAt}
+use Rattle.values.specs.Value.{valueAt, restAt, leadAt, stepAt, isMark}
 use Rattle.values.specs.declared.Got.the-variants.{Is, Done}
-use Rattle.values.proofs.Steps.{restAt, value-start, step-more, step-done}
+use Rattle.values.proofs.Steps.{value-start, step-more, step-done, mark-step}
 
 pub record Reading (s v : List ℕ) (i k : ℕ) : Type 0 where
   pub rest : restAt s i ≡ drop k v
@@ -48,6 +48,10 @@ module _ {s v : List ℕ} {i k : ℕ} (r : Reading s v i k) where
       let l : k < length v = omega (arith, simp length-drop at (ap length q)) in
       let t : drop k v ≡ getD v k 0 ∷ drop (k + 1) v = tail-step v k l in
       record { goes = m .1; inside = l; front = cc; is = cc; reads = record { rest = cc; within = omega arith; counts = omega arith } }
+
+  -- a mark, which was seen to be one
+  pub read-mark : (b : ℕ) (t : Bool) → b ≡ byteAt s i → t ≡ isMark b → t ≡ true → More s v i k b (i + 1)
+  read-mark b t e m h = read-more b (i + 1) (mark-step s i (ap isMark (sym e) ∙ sym m ∙ h) ∙ ap (λ (x : ℕ). Is x (i + 1)) (sym e))
 
   pub read-done : stepAt s i ≡ Done → k ≡ length v
   read-done e =

@@ -15,7 +15,7 @@ use Rattle.octets.proofs.Tests.{and-left, and-right, between-low}
 use Rattle.pieces.specs.Classes.{mayStand, isPlain}
 use Rattle.pieces.proofs.Goes.{Goes}
 use Rattle.values.specs.Chars.{nextAt, textAt}
-use Rattle.values.specs.Value.{trimmed, spaced, runs, collapsed, valueAt, gapAt, stepAt, placed, leadAt, isMark}
+use Rattle.values.specs.Value.{trimmed, spaced, runs, collapsed, valueAt, restAt, gapAt, stepAt, placed, leadAt, isMark}
 use Rattle.values.specs.declared.Next.the-variants.{Char, Over, Last}
 use Rattle.values.specs.declared.Got.{Got}
 use Rattle.values.specs.declared.Got.the-variants.{Is, Done}
@@ -113,10 +113,6 @@ spaced-trimmed (c ∷ cs) = go (isSpace c) refl (spaced-trimmed cs)
 
 -- ---- the rest of a value
 
--- what is left of a value from a place on that is no white space at its front
-abbrev pub restAt : List ℕ → ℕ → List ℕ
-restAt s i = runs (textAt s i)
-
 module _ (s : List ℕ) where
   -- at k the text from i on begins that is not white space, with the character x
   record First (i c k : ℕ) : Type 0 where
@@ -165,14 +161,6 @@ module _ (s : List ℕ) where
       go : (x : Got) → Leads i x → restAt s (placed (length s) x) ≡ runs (trimmed (textAt s i))
       go (Is c k) h = ap runs (h .trims)
       go Done h = ap runs (text-past s (length s) (omega arith) ∙ sym h)
-
-  pub lead-in : (i : ℕ) → leadAt s i ≤ length s
-  unfolding leadAt placed
-  lead-in i = go (gapAt s i) (leads i)
-    where
-      go : (x : Got) → Leads i x → placed (length s) x ≤ length s
-      go (Is c k) h = let l = h .in-it in omega arith
-      go Done h = omega arith
 
   pub value-past : (i : ℕ) → length s ≤ i → valueAt s i ≡ []
   unfolding valueAt collapsed

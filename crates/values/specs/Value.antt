@@ -34,6 +34,10 @@ collapsed cs = runs (trimmed cs)
 unfoldable pub valueAt : List ℕ → ℕ → List ℕ
 valueAt s i = collapsed (textAt s i)
 
+-- what is left of a value from a place in it
+abbrev pub restAt : List ℕ → ℕ → List ℕ
+restAt s i = runs (textAt s i)
+
 -- ---- what a value is asked for
 
 -- a letter's small form

@@ -117,7 +117,18 @@ fn from_space(s: &[u8], at: usize) -> Got
     slow(s, at)
 }
 
-// The next character of the value from a place in it: a mark, and a space before one, at once, anything else by `slow`.
+// The next character of the value from a place where b stands, which is no mark: a space before a mark at once, anything else by `slow`.
+fn from_other(s: &[u8], at: usize, b: u8) -> Got
+    requires { ⌜ b ≡ byteAt (now s) at ⌝ }
+    ensures { λ r. ⌜ r ≡ stepAt (now (s .entry)) at ⌝ }
+{
+    if b == 32 {
+        return from_space(s, at);
+    }
+    slow(s, at)
+}
+
+// The next character of the value from a place in it: a mark at once.
 pub fn step(s: &[u8], at: usize) -> Got
     ensures { λ r. ⌜ r ≡ stepAt (now (s .entry)) at ⌝ }
 {
@@ -125,10 +136,7 @@ pub fn step(s: &[u8], at: usize) -> Got
     if is_mark(b) {
         return Got::Is(b, at + 1);
     }
-    if b == 32 {
-        return from_space(s, at);
-    }
-    slow(s, at)
+    from_other(s, at, b)
 }
 
 // ---- the value
@@ -150,7 +158,13 @@ pub fn size(s: &[u8], at: usize) -> usize
     let mut i = lead(s, at);
     let mut k: usize = 0;
     loop {
-        let g = step(s, i);
+        let b = octets::byte(s, i);
+        if is_mark(b) {
+            i += 1;
+            k += 1;
+            continue;
+        }
+        let g = from_other(s, i, b);
         let Got::Is(_, j) = g else {
             return k;
         };
@@ -212,7 +226,14 @@ pub fn copy(s: &[u8], at: usize, g: usize, out: &mut [u8], to: usize) -> usize
     let mut i = lead(s, at);
     let mut k: usize = 0;
     while k < g {
-        let x = step(s, i);
+        let b = octets::byte(s, i);
+        if is_mark(b) {
+            out[to + k] = b;
+            i += 1;
+            k += 1;
+            continue;
+        }
+        let x = from_other(s, i, b);
         let Got::Is(c, j) = x else {
             return k;
         };

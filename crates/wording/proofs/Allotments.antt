@@ -10,10 +10,11 @@ use native.Mathlib.Omega.{arith}
 use lib.Dec.{eqb, leb}
 use lib.ListN.{length, length-append}
 use borrow.Author.Tests.{leb-true, leb-false, eqb-true}
+use Rattle.octets.proofs.Tests.{either-way}
 use Rattle.octets.specs.Bytes.{same}
 use Rattle.wording.specs.Given.{givenTo}
 use Rattle.wording.specs.Text.{Shares, after, one, roomOf, sharesOf, partsOf}
-use Rattle.wording.proofs.Cuts.{pick-as, one-none, one-some, cut-same, part, part-none, part-long}
+use Rattle.wording.proofs.Cuts.{one-none, one-some, cut-same, part, part-none, part-long}
 
 -- the greater of A − i and h
 abbrev pub upTo : ℕ → ℕ → ℕ
@@ -30,13 +31,13 @@ by a d i g t e f h = record { description = f ∙ sym e; instruction = h ∙ ap 
 shares-short : (a d i : ℕ) → Short a d i (sharesOf a d i)
 unfolding sharesOf
 shares-short a d i =
-    pick-as S (leb (d + i) a) _ _ (λ h. let fits = leb-true (d + i) a h in by a d i _ d (omega arith) (omega arith) (omega arith))
+    either-way S (leb (d + i) a) _ _ (λ h. let fits = leb-true (d + i) a h in by a d i _ d (omega arith) (omega arith) (omega arith))
     (λ h. let over = leb-false (d + i) a h in
-    pick-as S (eqb i 0) _ _ (λ k. let none = eqb-true i 0 k in by a d i _ a (omega arith) (omega arith) (omega arith))
-    (λ _. pick-as S (eqb d 0) _ _ (λ k. let none = eqb-true d 0 k in by a d i _ 0 (omega arith) (omega arith) (omega arith))
-    (λ _. pick-as S (leb i (a / 2)) _ _ (λ k. let half = leb-true i (a / 2) k in by a d i _ (a - i) (omega arith) (omega arith) (omega arith))
+    either-way S (eqb i 0) _ _ (λ k. let none = eqb-true i 0 k in by a d i _ a (omega arith) (omega arith) (omega arith))
+    (λ _. either-way S (eqb d 0) _ _ (λ k. let none = eqb-true d 0 k in by a d i _ 0 (omega arith) (omega arith) (omega arith))
+    (λ _. either-way S (leb i (a / 2)) _ _ (λ k. let half = leb-true i (a / 2) k in by a d i _ (a - i) (omega arith) (omega arith) (omega arith))
     (λ k. let more = leb-false i (a / 2) k in
-    pick-as S (leb d (a / 2)) _ _ (λ l. let half = leb-true d (a / 2) l in by a d i _ d (omega arith) (omega arith) (omega arith))
+    either-way S (leb d (a / 2)) _ _ (λ l. let half = leb-true d (a / 2) l in by a d i _ d (omega arith) (omega arith) (omega arith))
     (λ l. let both = leb-false d (a / 2) l in by a d i _ (a / 2) (omega arith) (omega arith) (omega arith))))))
   where
     S : Shares → Type 0

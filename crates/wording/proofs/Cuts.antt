@@ -2,7 +2,7 @@
 --     part-none, part-put, part-marked     what is put of a value, by whether it is empty, fits or is cut
 --     part-long                            how long that is
 use Prim.Native.Nat.{ℕ, _+_, _-_, _≤_, _<_, min}
-use mathlib.Core.Bool.{Bool, true, false}
+use mathlib.Core.Bool.{true, false}
 use mathlib.Core.List.{List, [], _∷_, _++_, append-assoc}
 use mathlib.Core.Path.{_≡_, refl, sym, ap, ap₂, _∙_}
 use native.Mathlib.Decide.{decLt}
@@ -12,15 +12,10 @@ use lib.Seq.{sets, sets-eq, length-sets, take-at, drop-at, take-all, length-take
 use borrow.Author.Tests.{le-leb, lt-leb}
 use Rattle.octets.proofs.Runs.{sets-append}
 use Rattle.octets.proofs.Sames.{same-is}
-use Rattle.octets.specs.Bytes.{pick, same}
+use Rattle.octets.specs.Bytes.{same}
 use Rattle.octets.specs.Text.{bytes}
 use Rattle.sentence.proofs.Puts.{Put, first, put-all}
 use Rattle.wording.specs.Text.{empty, after, one, cut}
-
--- what holds of both, under the test of each, holds of the one picked
-pub pick-as : {A : Type 0} (P : A → Type 0) (b : Bool) (x y : A) → (b ≡ true → P x) → (b ≡ false → P y) → P (pick b x y)
-pick-as P true x y f g = f refl
-pick-as P false x y f g = g refl
 
 -- ---- empty or not
 

@@ -9,11 +9,12 @@ use native.Mathlib.Omega.{arith}
 use lib.ListN.{length, take, length-append, length-take}
 use lib.Seq.{sets, take-append-add}
 use Rattle.octets.proofs.Runs.{Run}
+use Rattle.octets.proofs.Tests.{either-way}
 use Rattle.octets.specs.Bytes.{same}
 use Rattle.octets.specs.Text.{bytes}
 use Rattle.sentence.proofs.Puts.{put-all}
 use Rattle.wording.specs.Text.{most, plain, empty, after, phrase, roomOf, partsOf, textOf}
-use Rattle.wording.proofs.Cuts.{pick-as, some-long, after-some}
+use Rattle.wording.proofs.Cuts.{some-long, after-some}
 use Rattle.wording.proofs.Allotments.{parts-le, parts-full}
 
 -- what has been put at the very start
@@ -69,7 +70,7 @@ text-le sentence eas sender d i h =
     let before = front sentence sender in
     let parts = partsOf (length before) d i in
     let short = front-le sentence sender in
-    pick-as (λ (t : List ℕ). length t ≤ most) (empty eas) (before ++ parts) (plain (sentence ++ after eas))
+    either-way (λ (t : List ℕ). length t ≤ most) (empty eas) (before ++ parts) (plain (sentence ++ after eas))
     (λ e. omega (arith, length-append before parts, parts-le (length before) d i (omega arith)))
     (λ e. plain-le (sentence ++ after eas))
 

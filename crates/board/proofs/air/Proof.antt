@@ -15,11 +15,6 @@ use Rattle.board.proofs.Finds.{header-whole, aired-whole}
 use borrow.Author.Needs.{needs}
 use Rattle.board.proofs.air.Statement.{statement}
 use Rattle.board.proofs.air.Tie as tie
-use Rattle.board.proofs.air.Reads as reads
-use Rattle.board.proofs.air.Lts as lts
-use Rattle.board.proofs.header_at.Reads as header-at-reads
-use Rattle.records.proofs.Record.aired.Reads as aired-reads
-use Rattle.slots.proofs.add.Reads as add-reads
 
 header-long : (c : tie.After-header-at) → length (c .header-at .result .now) ≡ 243
 header-long c = ap length (c .header-at .ensures) ∙ header-whole (c .before .before .before .args .s .now) (c .before .before .before .args .j) (omega (arith, c .before .before .before .pre))

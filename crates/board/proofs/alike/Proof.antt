@@ -9,10 +9,6 @@ use Rattle.board.proofs.Finds.{mark-at, not-alike, other-header, alike-
 use borrow.Author.Needs.{needs}
 use Rattle.board.proofs.alike.Statement.{statement}
 use Rattle.board.proofs.alike.Tie as tie
-use Rattle.board.proofs.alike.Reads as reads
-use Rattle.board.proofs.alike.Lts as lts
-use Rattle.board.proofs.header_at.Reads as header-at-reads
-use Rattle.octets.proofs.equal.Reads as equal-reads
 
 element-copy-out-if1 : tie.Need-element-copy-out-if1
 element-copy-out-if1 c = search needs

@@ -10,11 +10,6 @@ use Rattle.board.proofs.Finds.{go-same, go-first, go-within, go-by}
 use borrow.Author.Needs.{needs}
 use Rattle.board.proofs.better.Statement.{statement}
 use Rattle.board.proofs.better.Tie as tie
-use Rattle.board.proofs.better.Reads as reads
-use Rattle.board.proofs.better.Lts as lts
-use Rattle.board.proofs.comes_after.Reads as comes-after-reads
-use Rattle.board.proofs.header_at.Reads as header-at-reads
-use Rattle.octets.proofs.compare.Reads as compare-reads
 
 comes-after-requires : tie.Need-comes-after-requires
 comes-after-requires c κs = search needs

@@ -9,10 +9,6 @@ use Rattle.board.proofs.Finds.{mark-at, unmarked, marked}
 use borrow.Author.Needs.{needs}
 use Rattle.board.proofs.comes_after.Statement.{statement}
 use Rattle.board.proofs.comes_after.Tie as tie
-use Rattle.board.proofs.comes_after.Reads as reads
-use Rattle.board.proofs.comes_after.Lts as lts
-use Rattle.board.proofs.header_at.Reads as header-at-reads
-use Rattle.octets.proofs.compare.Reads as compare-reads
 
 element-copy-out-if1 : tie.Need-element-copy-out-if1
 element-copy-out-if1 c = search needs

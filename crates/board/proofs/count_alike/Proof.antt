@@ -9,9 +9,6 @@ use Rattle.board.proofs.Finds.{count-on, count-end}
 use borrow.Author.Needs.{needs}
 use Rattle.board.proofs.count_alike.Statement.{statement}
 use Rattle.board.proofs.count_alike.Tie as tie
-use Rattle.board.proofs.count_alike.Reads as reads
-use Rattle.board.proofs.count_alike.Lts as lts
-use Rattle.board.proofs.alike.Reads as alike-reads
 
 abbrev Inv-loop : tie.InvT-loop
 Inv-loop s n marks j k₀ i₀ k i = (i ≤ n) × (k ≤ i) × (k + countOf (live (recs n s)) (carried (rec j s)) (drop i (recs n s)) ≡ countOf (live (recs n s)) (carried (rec j s)) (recs n s))

@@ -1,11 +1,12 @@
 -- k rows stand, and the scan behind the last of their headers finds the next.
-use Prim.Native.Nat.{ℕ, _-_, _≤_, _<_}
-use mathlib.Core.Path.{_≡_}
+use Prim.Native.Nat.{_-_, _≤_, _<_}
+use mathlib.Core.Path.{_≡_, refl}
 use native.Mathlib.Omega.{arith}
 use lib.ListN.{length}
 use lib.ListN.{length-replicate}
 use Rattle.ledger.specs.Board.{live, due}
 use Rattle.slots.specs.Slots.{recs}
+use Rattle.board.specs.Calls.{blank}
 use Rattle.board.specs.Marks.{Marks}
 use Rattle.board.proofs.Finds.{Standing, stand-start, row-within, stand-next, stand-end, due-most}
 use borrow.Author.Needs.{needs}
@@ -17,20 +18,19 @@ use Rattle.board.proofs.count_alike.Reads as count-alike-reads
 use Rattle.board.proofs.first_after.Reads as first-after-reads
 use Rattle.board.proofs.header_at.Reads as header-at-reads
 use Rattle.board.proofs.live_marks.Reads as live-marks-reads
-use Rattle.board.proofs.put_row.Reads as put-row-reads
 
 abbrev Inv-loop : tie.InvT-loop
-Inv-loop s n marks out₀ k₀ j₀ out k j = Marks (live (recs n s)) (recs n s) marks × (length out₀ ≡ 340) × Standing n s out₀ out k j
+Inv-loop s n marks rows₀ k₀ j₀ rows k j = Marks (live (recs n s)) (recs n s) marks × (length rows₀ ≡ 170) × Standing n s rows₀ rows k j
 
 abbrev μ-loop : tie.MeasureT-loop
-μ-loop s n marks out₀ k₀ j₀ out k j = length (due (recs n s)) - k
+μ-loop s n marks rows₀ k₀ j₀ rows k j = length (due (recs n s)) - k
 
 -- in a turn, a header is left
 room : (c : tie.In-loop Inv-loop μ-loop) → (c .before .loop .k < length (due (recs (c .before .before .before .before .before .before .before .args .n) (c .before .before .before .before .before .before .before .args .s .now)))) × (length (due (recs (c .before .before .before .before .before .before .before .args .n) (c .before .before .before .before .before .before .before .args .s .now))) ≤ c .before .before .before .before .before .before .before .args .n) × (c .before .loop .j < c .before .before .before .before .before .before .before .args .n) × (c .before .before .before .before .before .before .before .args .n ≤ 170)
 room c =
     let l = c .before .loop in
     let a = c .before .before .before .before .before .before .before .args in
-    (row-within (a .n) (a .s .now) _ (l .out) (l .k) (l .j) (l .inv .2) (c .loop-test .taken), due-most (a .n) (a .s .now), c .loop-test .taken, c .before .before .before .before .before .before .before .pre .1)
+    (row-within (a .n) (a .s .now) _ (l .rows) (l .k) (l .j) (l .inv .2) (c .loop-test .taken), due-most (a .n) (a .s .now), c .loop-test .taken, c .before .before .before .before .before .before .before .pre .1)
 
 live-marks-requires : tie.Need-live-marks-requires Inv-loop μ-loop
 live-marks-requires c κs = search needs
@@ -52,47 +52,48 @@ first-after-requires c κs =
 loop-holds : tie.Need-loop-holds Inv-loop μ-loop
 loop-holds c =
     let s = c .before .before .before .before .before in
-    (c .before .before .before .live-marks .ensures, length-replicate {A = ℕ} 340 0, stand-start (s .args .n) (s .args .s .now) _ _ (s .pre .0) (c .first-after .ensures))
+    (c .before .before .before .live-marks .ensures, length-replicate 170 blank, stand-start (s .args .n) (s .args .s .now) _ _ (s .pre .0) (c .first-after .ensures))
 
 count-alike-requires : tie.Need-count-alike-requires Inv-loop μ-loop
 count-alike-requires c κs =
     let p = c .before .before .before .before .before .before .before .before .pre in
     (p .0, p .1, c .before .loop-test .taken, c .before .before .loop .inv .0)
 
-slice-aggregate-put-row : tie.Need-slice-aggregate-put-row Inv-loop μ-loop
-slice-aggregate-put-row c = search needs
+mul-rows : tie.Need-mul-rows Inv-loop μ-loop
+mul-rows c = omega (arith, room (c .before .before))
 
-put-row-requires : tie.Need-put-row-requires Inv-loop μ-loop
-put-row-requires c κs =
-    let l = c .before .before .before .before .loop in
-    (omega (arith, room (c .before .before .before), l .inv .1, l .inv .2 .same-long), omega (arith, room (c .before .before .before)), omega (arith, c .before .count-alike .ensures .1, room (c .before .before .before)))
+array-set-from-rows : tie.Need-array-set-from-rows Inv-loop μ-loop
+array-set-from-rows c =
+    let l = c .before .before .before .loop in
+    omega (arith, room (c .before .before), l .inv .1, l .inv .2 .same-long)
 
 add-k : tie.Need-add-k Inv-loop μ-loop
-add-k c = omega (arith, room (c .before .before .before .before .before))
+add-k c = omega (arith, room (c .before .before))
 
 header-at-requires : tie.Need-header-at-requires Inv-loop μ-loop
-header-at-requires c κs = omega (arith, room (c .before .before .before .before .before .before), c .before .before .before .before .before .before .before .before .before .before .before .before .before .pre)
+header-at-requires c κs = omega (arith, room (c .before .before .before), c .before .before .before .before .before .before .before .before .before .before .pre)
 
 first-after-requires-2 : tie.Need-first-after-requires-2 Inv-loop μ-loop
 first-after-requires-2 c κs =
-    let p = c .before .before .before .before .before .before .before .before .before .before .before .before .before .before .pre in
-    (p .0, p .1, c .before .before .before .before .before .before .before .before .loop .inv .0)
+    let p = c .before .before .before .before .before .before .before .before .before .before .before .pre in
+    (p .0, p .1, c .before .before .before .before .before .loop .inv .0)
 
 loop-less : tie.Need-loop-less Inv-loop μ-loop
-loop-less c = omega (arith, room (c .before .before .before .before .before .before .before .before))
+loop-less c = omega (arith, room (c .before .before .before .before .before))
 
 loop-again : tie.Need-loop-again Inv-loop μ-loop
 loop-again c =
-    let l = c .before .before .before .before .before .before .before .before .before .loop in
-    let a = c .before .before .before .before .before .before .before .before .before .before .before .before .before .before .before .args in
-    (l .inv .0, l .inv .1, stand-next (a .n) (a .s .now) _ (l .out) (l .k) (l .j) (l .inv .2) (c .before .before .before .before .before .before .count-alike .result) _ _ _ (c .before .before .before .before .before .before .before .before .loop-test .taken) (c .before .before .before .before .before .before .count-alike .ensures .0) (c .before .before .before .before .put-row .ensures) (c .before .header-at .ensures) (c .first-after2 .ensures))
+    let l = c .before .before .before .before .before .before .loop in
+    let a = c .before .before .before .before .before .before .before .before .before .before .before .before .args in
+    let count = c .before .before .before .count-alike in
+    (l .inv .0, l .inv .1, stand-next (a .n) (a .s .now) _ (l .rows) (l .k) (l .j) (l .inv .2) (count .result) _ _ (c .before .before .before .before .before .loop-test .taken) (count .ensures .0) (c .before .header-at .ensures) (c .first-after2 .ensures))
 
 returns : tie.Need-returns Inv-loop μ-loop
 returns c =
     let l = c .before .loop in
-    let a = c .before .before .before .before .before .before .before .args in
-    let w = stand-end (a .n) (a .s .now) _ (l .out) (l .k) (l .j) (l .inv .2) (c .loop-test .left) (l .inv .1) (c .before .before .before .before .before .before .before .pre .1) in
-    (w .0, (w .1, omega (arith, l .inv .2 .fits, due-most (a .n) (a .s .now), c .before .before .before .before .before .before .before .pre)))
+    let s = c .before .before .before .before .before .before .before in
+    let w = stand-end (s .args .n) (s .args .s .now) _ (l .rows) (l .k) (l .j) (l .inv .2) (c .loop-test .left) (l .inv .1) (s .pre .1) in
+    (refl, (w .0, (w .1, omega (arith, l .inv .2 .fits, due-most (s .args .n) (s .args .s .now), s .pre))))
 
 pub due-rows-spec : {M : Type 1} → statement M
 due-rows-spec =
@@ -107,8 +108,8 @@ due-rows-spec =
     first-after-requires
     loop-holds
     count-alike-requires
-    slice-aggregate-put-row
-    put-row-requires
+    mul-rows
+    array-set-from-rows
     add-k
     header-at-requires
     first-after-requires-2

@@ -3,8 +3,6 @@ use Rattle.board.proofs.Finds.{header-part}
 use borrow.Author.Needs.{needs}
 use Rattle.board.proofs.header_at.Statement.{statement}
 use Rattle.board.proofs.header_at.Tie as tie
-use Rattle.board.proofs.header_at.Reads as reads
-use Rattle.board.proofs.header_at.Lts as lts
 
 mul-from : tie.Need-mul-from
 mul-from c = search needs

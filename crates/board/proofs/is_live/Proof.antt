@@ -12,12 +12,6 @@ use Rattle.board.proofs.Finds.{key-part, header-whole, aired-whole, not
 use borrow.Author.Needs.{needs}
 use Rattle.board.proofs.is_live.Statement.{statement}
 use Rattle.board.proofs.is_live.Tie as tie
-use Rattle.board.proofs.is_live.Reads as reads
-use Rattle.board.proofs.is_live.Lts as lts
-use Rattle.board.proofs.header_at.Reads as header-at-reads
-use Rattle.records.proofs.Record.aired.Reads as aired-reads
-use Rattle.records.proofs.withdrawal_of.Reads as withdrawal-of-reads
-use Rattle.slots.proofs.holds.Reads as holds-reads
 
 header-long : (c : tie.After-header-at) → length (c .header-at .result .now) ≡ 243
 header-long c = ap length (c .header-at .ensures) ∙ header-whole (c .before .before .before .before .before .before .before .before .before .before .before .args .s .now) (c .before .before .before .before .before .before .before .before .before .before .before .args .i) (omega (arith, c .before .before .before .before .before .before .before .before .before .before .before .pre))

@@ -2,7 +2,7 @@
 use mathlib.Core.Path.{sym, _∙_}
 use native.Mathlib.Omega.{arith}
 use borrow.Author.Tests.{not-true, not-false}
-use Rattle.fields.proofs.Groups.{Parted, group-no, group-is, first-in, no-first, no-second, parted, sender-as, identifier-as, sent-as}
+use Rattle.fields.proofs.Groups.{Parted, group-no, time-decides, first-in, no-first, no-second, parted, sender-as, identifier-as, sent-as}
 use borrow.Author.Needs.{needs}
 use Rattle.fields.proofs.is_group.Statement.{statement}
 use Rattle.fields.proofs.is_group.Tie as tie
@@ -74,24 +74,18 @@ part-instant-end c = search needs
 instant-requires : tie.Need-instant-requires
 instant-requires c κs = search needs
 
-enum-told : tie.Need-enum-told
-enum-told c = search needs
-
-enum-told-2 : tie.Need-enum-told-2
-enum-told-2 c = search needs
+is-time-requires : tie.Need-is-time-requires
+is-time-requires c κs = search needs
 
 returns-5 : tie.Need-returns-5
 returns-5 c =
-    let i = c .before .before .before .before in
+    let i = c .before .before .before in
     let s = i .before .before .before in
     let g = parts (s .before .before .before) in
-    sym (group-is _
+    sym (time-decides _
     (sender-as g (s .before .is-identity .ensures) ∙ not-false _ (s .if3 .left))
     (identifier-as g (i .before .is-identity2 .ensures) ∙ not-false _ (i .if4 .left))
-    (sent-as g (c .before .before .instant .ensures) (c .enum-told .given .1)))
-
-returns-6 : tie.Need-returns-6
-returns-6 c = sym (group-no 2 _ (sent-as (parts (c .before .before .before .before .before .before .before .before .before .before)) (c .before .before .instant .ensures) (c .enum-told2 .given .1)))
+    ∙ sent-as g (c .before .instant .ensures) (c .is-time .ensures))
 
 pub is-group-spec : {M : Type 1} → statement M
 is-group-spec =
@@ -118,7 +112,5 @@ is-group-spec =
     part-instant-start
     part-instant-end
     instant-requires
-    enum-told
-    enum-told-2
-    returns-5
-    returns-6)
+    is-time-requires
+    returns-5)

@@ -1,6 +1,5 @@
 -- The end tag decides.
-use mathlib.Core.Path.{_≡_, sym, _∙_}
-use native.Mathlib.Omega.{arith}
+use mathlib.Core.Path.{sym, _∙_}
 use Rattle.gather.specs.Visit.{finished}
 use borrow.Author.Needs.{needs}
 use Rattle.gather.proofs.finish.Statement.{statement}
@@ -21,16 +20,13 @@ leave-requires c κs = search needs
 enum-told : tie.Need-enum-told
 enum-told c = search needs
 
-refuse-requires : tie.Need-refuse-requires
-refuse-requires c κs = search needs
-
 returns : tie.Need-returns
 unfolding finished
 returns c = rw (sym (c .before .before .before .before .before .close-tag .ensures) ∙ c .before .before .before .z .given .1) (rw (c .leave .ensures, c .before .place .ensures))
 
 returns-2 : tie.Need-returns-2
 unfolding finished
-returns-2 c = rw (sym (c .before .before .before .close-tag .ensures) ∙ c .before .enum-told .given .1) (c .refuse .ensures)
+returns-2 c = rw (sym (c .before .before .close-tag .ensures) ∙ c .enum-told .given .1)
 
 pub finish-spec : {M : Type 1} → statement M
 finish-spec =
@@ -41,6 +37,5 @@ finish-spec =
     place-requires
     leave-requires
     enum-told
-    refuse-requires
     returns
     returns-2)

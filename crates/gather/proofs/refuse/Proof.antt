@@ -1,5 +1,4 @@
 -- Nothing is found yet.
-use mathlib.Core.Path.{ap}
 use borrow.Author.Needs.{needs}
 use Rattle.gather.proofs.refuse.Statement.{statement}
 use Rattle.gather.proofs.refuse.Tie as tie

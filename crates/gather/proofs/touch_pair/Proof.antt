@@ -1,6 +1,5 @@
 -- The leaf at k is touched, where there is one.
 use borrow.Author.Tests.{lt-ltb, le-ltb}
-use Rattle.gather.specs.Visit.{touched}
 use borrow.Author.Needs.{needs}
 use Rattle.gather.proofs.touch_pair.Statement.{statement}
 use Rattle.gather.proofs.touch_pair.Tie as tie

@@ -1,5 +1,4 @@
 -- By what is learnt.
-use mathlib.Core.Path.{_∙_}
 use Rattle.gather.specs.Visit.{touched}
 use borrow.Author.Needs.{needs}
 use Rattle.gather.proofs.touched_leaf.Statement.{statement}

@@ -1,5 +1,5 @@
 -- The words before and behind, and between them the scan; what stands lies inside.
-use Prim.Native.Nat.{ℕ, _+_, _≤_}
+use Prim.Native.Nat.{ℕ, _+_, _<_, _≤_}
 use mathlib.Core.Path.{_≡_, sym, ap, _∙_}
 use mathlib.Core.Bool.{true, false}
 use mathlib.Core.List.{[], _∷_}
@@ -14,6 +14,7 @@ use Rattle.octets.specs.Scan.{scan}
 use Rattle.octets.specs.Text.{bytes}
 use Rattle.octets.proofs.Sames.{stands-in}
 use Rattle.pieces.specs.declared.End.the-variants.{At}
+use Rattle.pieces.proofs.Inside.{space-in}
 use Rattle.markup.specs.Document.{inDeclaration, declarationAt}
 use Rattle.markup.proofs.declaration.Statement.{statement}
 use Rattle.markup.proofs.declaration.Tie as tie
@@ -28,8 +29,17 @@ returns : tie.Need-returns
 unfolding declarationAt bytes
 returns c =
     let s = now (c .before .before .before .before .args .s) in
-    let y : stands (60 ∷ 63 ∷ 120 ∷ 109 ∷ 108 ∷ []) s 0 ≡ false = sym (c .before .stands-at .ensures) ∙ not-true _ (c .if1 .taken) in
+    let at = c .before .before .before .before .args .at in
+    let y : stands (60 ∷ 63 ∷ 120 ∷ 109 ∷ 108 ∷ []) s at ≡ false = sym (c .before .stands-at .ensures) ∙ not-true _ (c .if1 .taken) in
     rw y
+
+add-byte : tie.Need-add-byte
+add-byte c =
+    let s = now (c .before .before .before .before .args .s) in
+    let at = c .before .before .before .before .args .at in
+    let y : stands (60 ∷ 63 ∷ 120 ∷ 109 ∷ 108 ∷ []) s at ≡ true = sym (c .before .stands-at .ensures) ∙ not-false _ (c .if1 .left) in
+    let h : at + 5 ≤ length s = stands-in (60 ∷ 63 ∷ 120 ∷ 109 ∷ 108 ∷ []) s at y (lit< tt) in
+    omega arith
 
 byte-requires : tie.Need-byte-requires
 byte-requires c κs = search needs
@@ -41,9 +51,18 @@ returns-2 : tie.Need-returns-2
 unfolding declarationAt bytes
 returns-2 c =
     let s = now (c .before .before .before .before .before .before .before .args .s) in
-    let y : stands (60 ∷ 63 ∷ 120 ∷ 109 ∷ 108 ∷ []) s 0 ≡ true = sym (c .before .before .before .before .stands-at .ensures) ∙ not-false _ (c .before .before .before .if1 .left) in
-    let b : isSpace (byteAt s 5) ≡ false = sym (c .before .is-space .ensures ∙ ap isSpace (c .before .before .byte .ensures)) ∙ not-true _ (c .if2 .taken) in
+    let at = c .before .before .before .before .before .before .before .args .at in
+    let y : stands (60 ∷ 63 ∷ 120 ∷ 109 ∷ 108 ∷ []) s at ≡ true = sym (c .before .before .before .before .stands-at .ensures) ∙ not-false _ (c .before .before .before .if1 .left) in
+    let b : isSpace (byteAt s (at + 5)) ≡ false = sym (c .before .is-space .ensures ∙ ap isSpace (c .before .before .byte .ensures)) ∙ not-true _ (c .if2 .taken) in
     rw (y, b)
+
+add-declaration-end : tie.Need-add-declaration-end
+add-declaration-end c =
+    let s = now (c .before .before .before .before .before .before .before .args .s) in
+    let at = c .before .before .before .before .before .before .before .args .at in
+    let b : isSpace (byteAt s (at + 5)) ≡ true = sym (c .before .is-space .ensures ∙ ap isSpace (c .before .before .byte .ensures)) ∙ not-false _ (c .if2 .left) in
+    let h : at + 5 < length s = space-in s (at + 5) b in
+    omega arith
 
 declaration-end-requires : tie.Need-declaration-end-requires
 declaration-end-requires c κs = search needs
@@ -54,10 +73,11 @@ slice-aggregate-stands-at-2 c = search needs
 stands-at-requires-2 : tie.Need-stands-at-requires-2
 stands-at-requires-2 c κs = search needs
 
-add-t14 : tie.Need-add-t14
-add-t14 c =
+add-t16 : tie.Need-add-t16
+add-t16 c =
     let s = now (c .before .before .before .before .before .before .before .before .before .before .before .args .s) in
-    let e = scan (inDeclaration s) (length s) 6 in
+    let at = c .before .before .before .before .before .before .before .before .before .before .before .args .at in
+    let e = scan (inDeclaration s) (length s) (at + 6) in
     let g : c .before .before .before .declaration-end .result ≡ e = c .before .before .before .declaration-end .ensures in
     let z : stands (63 ∷ 62 ∷ []) s e ≡ true = ap (stands (63 ∷ 62 ∷ []) s) (sym g) ∙ sym (c .before .stands-at2 .ensures) ∙ c .if3 .taken in
     let h : e + 2 ≤ length s = stands-in (63 ∷ 62 ∷ []) s e z (lit< tt) in
@@ -67,9 +87,10 @@ returns-3 : tie.Need-returns-3
 unfolding declarationAt bytes
 returns-3 c =
     let s = now (c .before .before .before .before .before .before .before .before .before .before .before .args .s) in
-    let y : stands (60 ∷ 63 ∷ 120 ∷ 109 ∷ 108 ∷ []) s 0 ≡ true = sym (c .before .before .before .before .before .before .before .before .stands-at .ensures) ∙ not-false _ (c .before .before .before .before .before .before .before .if1 .left) in
-    let b : isSpace (byteAt s 5) ≡ true = sym (c .before .before .before .before .before .is-space .ensures ∙ ap isSpace (c .before .before .before .before .before .before .byte .ensures)) ∙ not-false _ (c .before .before .before .before .if2 .left) in
-    let e = scan (inDeclaration s) (length s) 6 in
+    let at = c .before .before .before .before .before .before .before .before .before .before .before .args .at in
+    let y : stands (60 ∷ 63 ∷ 120 ∷ 109 ∷ 108 ∷ []) s at ≡ true = sym (c .before .before .before .before .before .before .before .before .stands-at .ensures) ∙ not-false _ (c .before .before .before .before .before .before .before .if1 .left) in
+    let b : isSpace (byteAt s (at + 5)) ≡ true = sym (c .before .before .before .before .before .is-space .ensures ∙ ap isSpace (c .before .before .before .before .before .before .byte .ensures)) ∙ not-false _ (c .before .before .before .before .if2 .left) in
+    let e = scan (inDeclaration s) (length s) (at + 6) in
     let g : c .before .before .before .declaration-end .result ≡ e = c .before .before .before .declaration-end .ensures in
     let z : stands (63 ∷ 62 ∷ []) s e ≡ true = ap (stands (63 ∷ 62 ∷ []) s) (sym g) ∙ sym (c .before .stands-at2 .ensures) ∙ c .if3 .taken in
     rw (y, b, z) (ap (λ (x : ℕ). At (x + 2)) g)
@@ -78,9 +99,10 @@ returns-4 : tie.Need-returns-4
 unfolding declarationAt bytes
 returns-4 c =
     let s = now (c .before .before .before .before .before .before .before .before .before .before .before .args .s) in
-    let y : stands (60 ∷ 63 ∷ 120 ∷ 109 ∷ 108 ∷ []) s 0 ≡ true = sym (c .before .before .before .before .before .before .before .before .stands-at .ensures) ∙ not-false _ (c .before .before .before .before .before .before .before .if1 .left) in
-    let b : isSpace (byteAt s 5) ≡ true = sym (c .before .before .before .before .before .is-space .ensures ∙ ap isSpace (c .before .before .before .before .before .before .byte .ensures)) ∙ not-false _ (c .before .before .before .before .if2 .left) in
-    let e = scan (inDeclaration s) (length s) 6 in
+    let at = c .before .before .before .before .before .before .before .before .before .before .before .args .at in
+    let y : stands (60 ∷ 63 ∷ 120 ∷ 109 ∷ 108 ∷ []) s at ≡ true = sym (c .before .before .before .before .before .before .before .before .stands-at .ensures) ∙ not-false _ (c .before .before .before .before .before .before .before .if1 .left) in
+    let b : isSpace (byteAt s (at + 5)) ≡ true = sym (c .before .before .before .before .before .is-space .ensures ∙ ap isSpace (c .before .before .before .before .before .before .byte .ensures)) ∙ not-false _ (c .before .before .before .before .if2 .left) in
+    let e = scan (inDeclaration s) (length s) (at + 6) in
     let g : c .before .before .before .declaration-end .result ≡ e = c .before .before .before .declaration-end .ensures in
     let z : stands (63 ∷ 62 ∷ []) s e ≡ false = ap (stands (63 ∷ 62 ∷ []) s) (sym g) ∙ sym (c .before .stands-at2 .ensures) ∙ c .if3 .left in
     rw (y, b, z)
@@ -92,12 +114,14 @@ declaration-spec =
     slice-aggregate-stands-at
     stands-at-requires
     returns
+    add-byte
     byte-requires
     is-space-requires
     returns-2
+    add-declaration-end
     declaration-end-requires
     slice-aggregate-stands-at-2
     stands-at-requires-2
-    add-t14
+    add-t16
     returns-3
     returns-4)

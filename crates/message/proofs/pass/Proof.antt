@@ -4,13 +4,12 @@ use borrow.Author.Tests.{not-true, not-false}
 use lib.ListN.{length}
 use denote.Ref.{now}
 use Rattle.markup.specs.Tree.{elemAt}
-use Rattle.markup.proofs.Goes.{elem-goes}
 use Rattle.reads.specs.Leaves.{fresh}
 use Rattle.reads.specs.declared.Context.{Context}
 use Rattle.reads.specs.declared.State.{State}
 use Rattle.gather.specs.Visit.{gotOne}
 use Rattle.message.specs.Message.{rootContext}
-use Rattle.message.proofs.Roots.{pass-none, pass-in, pass-unended, pass-more, pass-other, pass-is}
+use Rattle.message.proofs.Roots.{pass-none, pass-unended, pass-more, pass-other, pass-is}
 use borrow.Author.Needs.{needs}
 use Rattle.message.proofs.pass.Statement.{statement}
 use Rattle.message.proofs.pass.Tie as tie
@@ -37,7 +36,7 @@ returns : tie.Need-returns
 returns c = let a = c .before .before .before .before .before .before .before .before .args in let s = now (a .s) in let p = now (a .p) in let o = elemAt s 12 (a .i) in let z = c .before .before .before .element in let got : z .result ≡ gotOne s p (rootContext (a .ok)) (fresh (length s)) o = z .ensures ∙ ap (λ (k : Context). gotOne s p k (c .before .before .before .before .new-state .result) o) (c .before .before .before .before .before .root-context .ensures) ∙ ap (λ (q : State). gotOne s p (rootContext (a .ok)) q o) (c .before .before .before .before .new-state .ensures) in c .refused .ensures ∙ pass-none s p (a .ok) o (z .result) got (c .before .enum-told .given .1)
 
 misc-requires : tie.Need-misc-requires
-misc-requires c κs = let a = c .before .before .before .before .before .before .before .before .args in let s = now (a .s) in let p = now (a .p) in let o = elemAt s 12 (a .i) in let z = c .before .before .before .element in let got : z .result ≡ gotOne s p (rootContext (a .ok)) (fresh (length s)) o = z .ensures ∙ ap (λ (k : Context). gotOne s p k (c .before .before .before .before .new-state .result) o) (c .before .before .before .before .before .root-context .ensures) ∙ ap (λ (q : State). gotOne s p (rootContext (a .ok)) q o) (c .before .before .before .before .new-state .ensures) in let j = c .before .e .given .0 .0 in let q = c .before .e .given .1 in pass-in s p (a .ok) o (z .result) got j q (a .i) (elem-goes s 12 (a .i))
+misc-requires c κs = search needs
 
 enum-known-m : tie.Need-enum-known-m
 enum-known-m c = search needs

@@ -1,12 +1,12 @@
--- Each turn puts the next character of those that are taken, and what is left to put is what is left of them.
-use Prim.Native.Nat.{_-_}
+-- Each turn puts the next character of those that are taken, a mark at once, and what is left to put is what is left of them.
+use Prim.Native.Nat.{_+_, _-_}
 use mathlib.Core.Path.{sym, _∙_}
 use native.Mathlib.Omega.{arith}
 use denote.Ref.{now}
 use borrow.Author.Needs.{needs}
 use Rattle.values.specs.Value.{valueAt}
 use lib.ListN.{length}
-use Rattle.values.proofs.Loops.{More, Copying, copy-starts, read-more, read-done, in-take, copy-more, copy-done, copy-full}
+use Rattle.values.proofs.Loops.{More, Copying, copy-starts, read-more, read-mark, read-done, in-take, copy-more, copy-done, copy-full}
 use Rattle.values.proofs.copy.Statement.{statement}
 use Rattle.values.proofs.copy.Tie as tie
 
@@ -16,9 +16,12 @@ Inv-loop s at g out₀ to i₀ k₀ out i k = Copying s (valueAt s at) g out₀ 
 abbrev μ-loop : tie.MeasureT-loop
 μ-loop s at g out₀ to i₀ k₀ out i k = length s - i
 
--- the character at the place
-more : (c : tie.After-known-told Inv-loop μ-loop) → More (now (c .before .before .before .before .before .before .before .before .before .args .s)) (valueAt (now (c .before .before .before .before .before .before .before .before .before .args .s)) (c .before .before .before .before .before .before .before .before .before .args .at)) (c .before .before .before .before .before .loop .i) (c .before .before .before .before .before .loop .k) (c .before .x .given .0 .0) (c .before .x .given .0 .1 .0)
-more c = read-more (c .before .before .before .before .before .loop .inv .reads) _ _ (sym (c .before .before .before .step .ensures) ∙ c .before .x .given .1)
+-- a mark at the place, and another character there
+marked : (c : tie.Then1 Inv-loop μ-loop) → let a = c .before .before .before .before .before .before .before .before .args in let l = c .before .before .before .before .loop in More (now (a .s)) (valueAt (now (a .s)) (a .at)) (l .i) (l .k) (c .before .before .byte .result) (l .i + 1)
+marked c = read-mark (c .before .before .before .before .loop .inv .reads) _ _ (c .before .before .byte .ensures) (c .before .is-mark .ensures) (c .if1 .taken)
+
+more : (c : tie.After-known-told Inv-loop μ-loop) → let a = c .before .before .before .before .before .before .before .before .before .before .before .before .args in let l = c .before .before .before .before .before .before .before .before .loop in More (now (a .s)) (valueAt (now (a .s)) (a .at)) (l .i) (l .k) (c .before .x .given .0 .0) (c .before .x .given .0 .1 .0)
+more c = read-more (c .before .before .before .before .before .before .before .before .loop .inv .reads) _ _ (sym (c .before .before .before .from-other .ensures) ∙ c .before .x .given .1)
 
 lead-requires : tie.Need-lead-requires Inv-loop μ-loop
 lead-requires c κs = search needs
@@ -26,8 +29,32 @@ lead-requires c κs = search needs
 loop-holds : tie.Need-loop-holds Inv-loop μ-loop
 loop-holds c = rw (c .lead .ensures) (copy-starts _ _ _ _ _)
 
-step-requires : tie.Need-step-requires Inv-loop μ-loop
-step-requires c κs = search needs
+byte-requires : tie.Need-byte-requires Inv-loop μ-loop
+byte-requires c κs = search needs
+
+is-mark-requires : tie.Need-is-mark-requires Inv-loop μ-loop
+is-mark-requires c κs = search needs
+
+add-out : tie.Need-add-out Inv-loop μ-loop
+add-out c = let l = in-take (c .before .before .before .before .loop .inv) (marked c) (c .before .before .before .loop-test .taken) in omega arith
+
+slice-write-out : tie.Need-slice-write-out Inv-loop μ-loop
+slice-write-out c = let l = in-take (c .before .before .before .before .loop .inv) (marked c) (c .before .before .before .loop-test .taken) in omega arith
+
+add-i : tie.Need-add-i Inv-loop μ-loop
+add-i c = let m = marked c in let g = m .goes .in-it in omega arith
+
+add-k : tie.Need-add-k Inv-loop μ-loop
+add-k c = let m = marked c in omega arith
+
+loop-less : tie.Need-loop-less Inv-loop μ-loop
+loop-less c = let m = marked c in omega arith
+
+loop-again : tie.Need-loop-again Inv-loop μ-loop
+loop-again c = copy-more (c .before .before .before .before .loop .inv) (marked c) (c .before .before .before .loop-test .taken)
+
+from-other-requires : tie.Need-from-other-requires Inv-loop μ-loop
+from-other-requires c κs = search needs
 
 enum-known-x : tie.Need-enum-known-x Inv-loop μ-loop
 enum-known-x c = search needs
@@ -39,22 +66,22 @@ same-length : tie.Need-same-length Inv-loop μ-loop
 same-length c = search needs
 
 returns : tie.Need-returns Inv-loop μ-loop
-returns c = copy-done (c .before .before .before .before .loop .inv) (read-done (c .before .before .before .before .loop .inv .reads) (sym (c .before .before .step .ensures) ∙ c .enum-told .given .1))
+returns c = let r = c .before .before .before .before .before .before .before .loop .inv in copy-done r (read-done (r .reads) (sym (c .before .before .from-other .ensures) ∙ c .enum-told .given .1))
 
-add-out : tie.Need-add-out Inv-loop μ-loop
-add-out c = let l = in-take (c .before .before .before .before .before .loop .inv) (more c) (c .before .before .before .before .loop-test .taken) in omega arith
+add-out-2 : tie.Need-add-out-2 Inv-loop μ-loop
+add-out-2 c = let l = in-take (c .before .before .before .before .before .before .before .before .loop .inv) (more c) (c .before .before .before .before .before .before .before .loop-test .taken) in omega arith
 
-slice-write-out : tie.Need-slice-write-out Inv-loop μ-loop
-slice-write-out c = let l = in-take (c .before .before .before .before .before .loop .inv) (more c) (c .before .before .before .before .loop-test .taken) in omega arith
+slice-write-out-2 : tie.Need-slice-write-out-2 Inv-loop μ-loop
+slice-write-out-2 c = let l = in-take (c .before .before .before .before .before .before .before .before .loop .inv) (more c) (c .before .before .before .before .before .before .before .loop-test .taken) in omega arith
 
-add-k : tie.Need-add-k Inv-loop μ-loop
-add-k c = let m = more c in omega arith
+add-k-2 : tie.Need-add-k-2 Inv-loop μ-loop
+add-k-2 c = let m = more c in omega arith
 
-loop-less : tie.Need-loop-less Inv-loop μ-loop
-loop-less c = let m = more c in omega arith
+loop-less-2 : tie.Need-loop-less-2 Inv-loop μ-loop
+loop-less-2 c = let m = more c in omega arith
 
-loop-again : tie.Need-loop-again Inv-loop μ-loop
-loop-again c = copy-more (c .before .before .before .before .before .loop .inv) (more c) (c .before .before .before .before .loop-test .taken)
+loop-again-2 : tie.Need-loop-again-2 Inv-loop μ-loop
+loop-again-2 c = copy-more (c .before .before .before .before .before .before .before .before .loop .inv) (more c) (c .before .before .before .before .before .before .before .loop-test .taken)
 
 same-length-2 : tie.Need-same-length-2 Inv-loop μ-loop
 same-length-2 c = search needs
@@ -70,15 +97,23 @@ copy-spec =
     μ-loop
     lead-requires
     loop-holds
-    step-requires
+    byte-requires
+    is-mark-requires
+    add-out
+    slice-write-out
+    add-i
+    add-k
+    loop-less
+    loop-again
+    from-other-requires
     enum-known-x
     enum-told
     same-length
     returns
-    add-out
-    slice-write-out
-    add-k
-    loop-less
-    loop-again
+    add-out-2
+    slice-write-out-2
+    add-k-2
+    loop-less-2
+    loop-again-2
     same-length-2
     returns-2)

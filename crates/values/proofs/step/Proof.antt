@@ -1,4 +1,4 @@
--- A mark is a character as it stands, by `mark-step`; anything else is what `from_space` and `slow` answer.
+-- A mark is a character as it stands, by `mark-step`; anything else is what `from_other` answers.
 use Prim.Native.Nat.{ℕ, _+_}
 use mathlib.Core.Path.{_≡_, sym, ap, _∙_}
 use mathlib.Core.Bool.{true}
@@ -33,18 +33,13 @@ returns c =
     let h : isMark (byteAt s i) ≡ true = cc in
     ap (λ (b : ℕ). Is b (i + 1)) (c .before .before .byte .ensures) ∙ sym (mark-step s i h)
 
-from-space-requires : tie.Need-from-space-requires
-from-space-requires c κs = sym (c .before .before .before .byte .ensures) ∙ c .if2 .taken
+from-other-requires : tie.Need-from-other-requires
+from-other-requires c κs = search needs
 
 returns-2 : tie.Need-returns-2
 returns-2 c = search needs
 
-slow-requires : tie.Need-slow-requires
-slow-requires c κs = search needs
-
-returns-3 : tie.Need-returns-3
-returns-3 c = search needs
-
 pub step-spec : {M : Type 1} → statement M
 step-spec =
-    tie.close (tie.spec byte-requires is-mark-requires add-t5 returns from-space-requires returns-2 slow-requires returns-3)
+    tie.close
+    (tie.spec byte-requires is-mark-requires add-t5 returns from-other-requires returns-2)

@@ -1,0 +1,51 @@
+/*
+ * The calls of the library, each made twice on slices against guard pages: once with every slice at the end of
+ * its pages and once at their start, outputs filled differently. Both must give the same answer and the same bytes,
+ * and whatever can be said of an answer by itself is checked.
+ */
+#ifndef CALLS_H
+#define CALLS_H
+
+#include "chance.h"
+
+enum call { CONVERT, READ_HEADER, WRITE_HEADER, OFFER, HAND_OUT, CALLS };
+
+struct slice {
+    const uint8_t *bytes;
+    size_t length;
+};
+
+/* What stuiverhaag_write_header takes. */
+struct parts {
+    uint32_t originator, period, day, hour, minute;
+    struct slice event, locations, station;
+};
+
+/* How long the outputs of a conversion are lent. */
+struct lengths {
+    size_t header, text, uri;
+};
+
+struct slice slice_of(const struct bytes *bytes);
+
+uint64_t convert(struct slice message, struct slice station, struct lengths lengths);
+uint64_t read_header(struct slice header);
+uint64_t write_header(const struct parts *parts, size_t out_length);
+
+/* These two leave in the board what the call left there. */
+uint64_t offer(struct bytes *board, struct slice message);
+uint64_t hand_out(struct bytes *board);
+
+/* What the last conversion or the last writing of a header wrote as the header. */
+struct slice written_header(void);
+
+/* Prints every call before it is made. */
+void print_calls(void);
+
+/* Prints a number with commas. */
+void print_grouped(unsigned long number);
+
+/* Prints how often each number was answered. Whether each that a call may answer was. */
+bool print_counts(void);
+
+#endif

@@ -1,0 +1,555 @@
+#include "cases.h"
+
+#include "alerts.h"
+#include "boards.h"
+#include "calls.h"
+#include "lent.h"
+#include "messages.h"
+#include "replay.h"
+#include "stuiverhaag.h"
+
+#include <stdio.h>
+#include <string.h>
+
+#define RECORD STUIVERHAAG_RECORD
+#define RECORDS STUIVERHAAG_RECORDS
+#define MOST_RELATED 8
+#define MOST_HANDED 256
+
+static const uint8_t bench[] = "BENCH/01";
+static const struct slice bench_station = {bench, 8};
+static const struct lengths just_enough = {STUIVERHAAG_HEADER, STUIVERHAAG_TEXT, STUIVERHAAG_URI};
+
+/* How often what one call gave was held beside what another gave. */
+static struct {
+    unsigned long written_again, read_again, notices, taken_again, successors, orders;
+} compared;
+
+/* ---- headers */
+
+static void put_station(struct bytes *out)
+{
+    static const char *const odd[] = {
+        "BENCH-01", "BENCH+01", "BENCH/0", "BENCH/012", "", "BENCH/0\x7f", "BENCH/0\x1f", "\xff",
+    };
+    static const char marks[] = "/ ~!,.0";
+
+    out->length = 0;
+    if (once_in(20)) {
+        put(out, PICK(odd));
+        return;
+    }
+    for (size_t left = 8; left > 0; left--)
+        put_byte(out, (unsigned)(once_in(4) ? marks[below(sizeof marks - 1)] : 'A' + (int)below(26)));
+}
+
+/* What was read of a header gives the same bytes when it is written. */
+static void check_written_again(struct slice header, uint64_t answer)
+{
+    uint8_t locations[6 * 31];
+    size_t count = stuiverhaag_locations(answer);
+    struct parts parts = {
+        .originator = stuiverhaag_originator(answer),
+        .period = stuiverhaag_period(answer),
+        .day = stuiverhaag_day(answer),
+        .hour = stuiverhaag_hour(answer),
+        .minute = stuiverhaag_minute(answer),
+        .event = {header.bytes + 9, 3},
+        .locations = {locations, 6 * count},
+        .station = {header.bytes + header.length - 9, 8},
+    };
+
+    for (size_t i = 0; i < count; i++)
+        memcpy(locations + 6 * i, header.bytes + 13 + 7 * i, 6);
+    if (stuiverhaag_number(write_header(&parts, STUIVERHAAG_HEADER)) != 0)
+        broken("The parts of a header that was read are refused.");
+    if (written_header().length != header.length || memcmp(written_header().bytes, header.bytes, header.length) != 0)
+        broken("The parts of a header that was read give another header.");
+    compared.written_again++;
+}
+
+/* Reads a header; whether it is one. */
+static bool check_header(struct slice header)
+{
+    uint64_t answer = read_header(header);
+
+    if (stuiverhaag_number(answer) != 0)
+        return false;
+    check_written_again(header, answer);
+    return true;
+}
+
+static void put_header(struct bytes *out)
+{
+    static struct bytes station;
+    static const char *const originators[] = {"PEP", "EAS", "WXR", "CIV", "CIV", "EAN"};
+    static const size_t counts[] = {1, 1, 2, 3, 30, 31, 31, 32, 0};
+    static const char *const periods[] = {"0015", "0030", "0045", "0100", "9930", "2330", "0000", "0060", "9945"};
+    static const uint64_t days[] = {1, 95, 365, 366, 1, 95, 0, 367};
+
+    put(out, "ZCZC-");
+    put(out, PICK(originators));
+    put(out, once_in(12) ? "-C1M" : "-CEM");
+    for (size_t left = PICK(counts); left > 0; left--) {
+        put_byte(out, '-');
+        put_number(out, below(1000000), 6);
+    }
+    put_byte(out, '+');
+    put(out, PICK(periods));
+    put_byte(out, '-');
+    put_number(out, PICK(days), 3);
+    put_number(out, below(once_in(8) ? 30 : 24), 2);
+    put_number(out, below(once_in(8) ? 70 : 60), 2);
+    put_byte(out, '-');
+    put_station(&station);
+    put_bytes(out, station.byte, station.length);
+    put_byte(out, '-');
+}
+
+static void case_read(void)
+{
+    static struct bytes header;
+    static const size_t lengths[] = {0, 1, 41, 42, 251, 252, 253, 4096, 65535, 100000};
+
+    header.length = 0;
+    if (once_in(12))
+        put_chance(&header, once_in(4) ? PICK(lengths) : below(300));
+    else
+        put_header(&header);
+    while (once_in(3))
+        damage(&header);
+    check_header(slice_of(&header));
+}
+
+/* A number as it is most often, else another, or one of which only the low bits are the number. */
+static uint32_t or_other(uint32_t number)
+{
+    static const uint32_t others[] = {0, 1, 5, 15, 24, 60, 75, 255, 367, 6000, 0x7fffffff, 0x80000000, UINT32_MAX};
+    static const uint32_t above[] = {0x80, 0x100, 0x200, 0x10000, 0x1000000, 0x80000000};
+
+    if (!once_in(16))
+        return number;
+    return once_in(2) ? PICK(others) : number + PICK(above);
+}
+
+static uint32_t draw_number(uint32_t low, uint32_t high)
+{
+    return or_other(low + (uint32_t)below(high - low + 1));
+}
+
+static void put_event(struct bytes *out)
+{
+    static const char *const odd[] = {"", "C", "CE", "CEMX", "cem", "C1M", "@AB", "AB[", "\xff\xff\xff"};
+
+    out->length = 0;
+    if (once_in(16))
+        put(out, PICK(odd));
+    else
+        for (size_t left = 3; left > 0; left--)
+            put_byte(out, (unsigned)('A' + below(26)));
+    if (once_in(50))
+        damage(out);
+}
+
+static void put_locations(struct bytes *out)
+{
+    static const size_t counts[] = {1, 1, 2, 3, 30, 31};
+    static const size_t odd[] = {0, 32, 33, 256, 10000};
+
+    out->length = 0;
+    for (size_t left = once_in(12) ? PICK(odd) : PICK(counts); left > 0; left--)
+        put_number(out, below(1000000), 6);
+    if (once_in(12))
+        damage(out);
+}
+
+/* A written header is read as what was written. */
+static void check_read_again(const struct parts *parts)
+{
+    struct slice written = written_header();
+    uint8_t header[STUIVERHAAG_HEADER];
+    uint64_t answer;
+
+    memcpy(header, written.bytes, written.length);
+    answer = read_header((struct slice){header, written.length});
+    if (stuiverhaag_number(answer) != 0)
+        broken("A header that was written is refused.");
+    if (stuiverhaag_originator(answer) != parts->originator || stuiverhaag_period(answer) != parts->period ||
+        stuiverhaag_day(answer) != parts->day || stuiverhaag_hour(answer) != parts->hour ||
+        stuiverhaag_minute(answer) != parts->minute || stuiverhaag_locations(answer) * 6 != parts->locations.length)
+        broken("A header that was written is read as another one.");
+    for (size_t i = 0; i < parts->locations.length; i++)
+        if (header[13 + i + i / 6] != parts->locations.bytes[i])
+            broken("A location is read that was not written.");
+    if (memcmp(header + 9, parts->event.bytes, 3) != 0 ||
+        memcmp(header + written.length - 9, parts->station.bytes, 8) != 0)
+        broken("An event or a station is read that was not written.");
+    compared.read_again++;
+}
+
+/* An output's length: most often enough, once in a while short, by one byte or more. */
+static size_t draw_length(size_t enough)
+{
+    static const size_t longer[] = {1, 7, 100, 4096, 65536};
+
+    if (once_in(50))
+        return once_in(2) ? enough - 1 : below(enough);
+    return once_in(4) ? enough + PICK(longer) : enough;
+}
+
+static void case_write(void)
+{
+    static struct bytes event, locations, station;
+    static const uint32_t periods[] = {15, 30, 45, 60, 90, 5940, 5970, 1410};
+    struct parts parts;
+
+    parts.originator = draw_number(1, 4);
+    parts.period = once_in(8) ? draw_number(0, 6000) : or_other(PICK(periods));
+    parts.day = draw_number(1, 366);
+    parts.hour = draw_number(0, 23);
+    parts.minute = draw_number(0, 59);
+    put_event(&event);
+    put_locations(&locations);
+    put_station(&station);
+    parts.event = slice_of(&event);
+    parts.locations = slice_of(&locations);
+    parts.station = slice_of(&station);
+    if (stuiverhaag_number(write_header(&parts, draw_length(STUIVERHAAG_HEADER))) == 0)
+        check_read_again(&parts);
+}
+
+/* ---- conversions */
+
+/* Converts a message. A header that it gives is read, and written again. */
+static void check_convert(struct slice message, struct slice station, struct lengths lengths)
+{
+    uint64_t answer = convert(message, station, lengths);
+    struct slice written = written_header();
+    uint8_t header[STUIVERHAAG_HEADER];
+
+    if (stuiverhaag_number(answer) != 0 || written.length == 0)
+        return;
+    memcpy(header, written.bytes, written.length);
+    if (memcmp(header + written.length - 9, station.bytes, 8) != 0)
+        broken("The header has another station.");
+    if (!check_header((struct slice){header, written.length}))
+        broken("The header of a conversion is refused.");
+}
+
+static void case_convert(void)
+{
+    static struct bytes message, station;
+    struct lengths lengths;
+
+    lengths.header = draw_length(STUIVERHAAG_HEADER);
+    lengths.text = draw_length(STUIVERHAAG_TEXT);
+    lengths.uri = draw_length(STUIVERHAAG_URI);
+    any_message(&message);
+    put_station(&station);
+    check_convert(slice_of(&message), slice_of(&station), lengths);
+}
+
+/* ---- boards */
+
+/* The headers that were handed out on a board. */
+struct handed {
+    uint8_t header[MOST_HANDED][HEADER_ROOM];
+    size_t count;
+    /* Since the last offer. */
+    size_t since;
+};
+
+/* An offer answers of a message what a conversion does, and the board then holds a notice with the header of that. */
+static void check_agreement(const struct bytes *board, struct slice message, uint64_t offered)
+{
+    uint64_t converted = convert(message, bench_station, just_enough);
+    unsigned number = stuiverhaag_number(offered);
+
+    if (number == 1)
+        return;
+    if (stuiverhaag_number(converted) != (number == 15 ? 0 : number) ||
+        stuiverhaag_field(converted) != stuiverhaag_field(offered))
+        broken("An offer and a conversion of one message answer different numbers.");
+    if (number != 0 || stuiverhaag_header_length(converted) == 0)
+        return;
+    if (!holds_notice(board, written_header().bytes, stuiverhaag_header_length(converted) - 9))
+        broken("The board holds no notice with the header that the conversion gives.");
+    compared.notices++;
+}
+
+/* Offers a message; an offer of it again then adds nothing. The number. */
+static unsigned check_offer(struct bytes *board, struct slice message)
+{
+    static struct bytes before, after;
+    uint64_t answer;
+
+    copy(&before, board);
+    answer = offer(board, message);
+    if (stuiverhaag_number(answer) == 0)
+        check_grown(&before, board, stuiverhaag_added(answer));
+    if (stuiverhaag_added(answer) > 17)
+        broken("More was added than a notice and sixteen withdrawals.");
+    if (once_in(4))
+        check_agreement(board, message, answer);
+    if (stuiverhaag_number(answer) != 0)
+        return stuiverhaag_number(answer);
+    copy(&after, board);
+    if (offer(board, message) != 0 || memcmp(board->byte, after.byte, after.length) != 0)
+        broken("A message that was taken is not taken again with nothing added.");
+    compared.taken_again += stuiverhaag_added(answer) > 0;
+    return 0;
+}
+
+/* A message that ends at each of its places, converted and offered. */
+static void case_cut(void)
+{
+    static struct bytes message, board;
+
+    do
+        sound_message(&message);
+    while (message.length > 2000);
+    for (size_t length = 0; length <= message.length; length++) {
+        struct slice cut = {message.byte, length};
+
+        check_convert(cut, bench_station, just_enough);
+        empty_board(&board, 3);
+        check_offer(&board, cut);
+    }
+}
+
+/* No header is handed out twice; those between two offers come in byte order. */
+static void check_handed(struct handed *handed, const uint8_t *header)
+{
+    for (size_t i = 0; i < handed->count; i++)
+        if (memcmp(handed->header[i], header, HEADER_ROOM) == 0)
+            broken("A header was handed out twice.");
+    if (handed->since > 0 && memcmp(handed->header[handed->count - 1], header, HEADER_ROOM) >= 0)
+        broken("Headers were not handed out in byte order.");
+    if (handed->count == MOST_HANDED)
+        broken("More headers were handed out than a board has records.");
+    memcpy(handed->header[handed->count], header, HEADER_ROOM);
+    compared.successors += handed->since > 0;
+    handed->count++;
+    handed->since++;
+}
+
+static unsigned check_hand_out(struct bytes *board, struct handed *handed)
+{
+    static struct bytes before;
+    uint64_t answer;
+
+    copy(&before, board);
+    answer = hand_out(board);
+    if (stuiverhaag_number(answer) != 0)
+        return stuiverhaag_number(answer);
+    check_aired(&before, board, stuiverhaag_index(answer));
+    check_handed(handed, board->byte + stuiverhaag_index(answer) * RECORD + HEADER_AT);
+    return 0;
+}
+
+/*
+ * A message and others that concern it: of the same header, of the same identity, a quiet Cancel, an Update, one that
+ * withdraws itself, a Cancel that is not quiet; and one that does not concern it and names as many as it may.
+ */
+static void draw_related(struct alert *related)
+{
+    struct alert *first = &related[0];
+
+    draw_alert(first);
+    for (size_t i = 1; i < MOST_RELATED; i++)
+        related[i] = *first;
+    strcpy(related[1].own.identifier, "again");
+    related[1].own.zone = 0;
+    related[2].event = "TST";
+    draw_alert(&related[3]);
+    refer_to(&related[3], "Cancel", &first->own, 1);
+    related[3].has_info = false;
+    strcpy(related[4].own.identifier, "later");
+    refer_to(&related[4], "Update", (struct identity[]){first->own, related[1].own, first->own}, 3);
+    refer_to(&related[5], "Update", &first->own, 1);
+    draw_alert(&related[6]);
+    refer_to(&related[6], "Cancel", (struct identity[]){related[1].own, related[4].own}, 2);
+    draw_alert(&related[7]);
+    refer_to_unknown(&related[7], once_in(2) ? 16 : 2);
+}
+
+static size_t draw_records(void)
+{
+    static const size_t counts[] = {1, 1, 2, 3, 4, 6, 8, 12, 16, 20, 30};
+
+    return once_in(60) ? RECORDS : PICK(counts);
+}
+
+/* Offers and hand-outs on one board that began empty. */
+static void case_chain(void)
+{
+    static struct bytes board, message;
+    static struct handed handed;
+    struct alert related[MOST_RELATED];
+
+    handed.count = 0;
+    handed.since = 0;
+    empty_board(&board, draw_records());
+    draw_related(related);
+    for (size_t left = 4 + below(24); left > 0; left--) {
+        if (once_in(12))
+            draw_related(related);
+        if (once_in(3)) {
+            check_hand_out(&board, &handed);
+            continue;
+        }
+        if (once_in(6))
+            any_message(&message);
+        else
+            write_alert(&message, &related[below(MOST_RELATED)]);
+        check_offer(&board, slice_of(&message));
+        handed.since = 0;
+    }
+    while (check_hand_out(&board, &handed) == 0)
+        ;
+}
+
+/* The same messages on two empty boards, each in its own order, leave the same records. */
+static void case_orders(void)
+{
+    static struct bytes board, other, taken[MOST_RELATED];
+    struct alert related[MOST_RELATED];
+    size_t count = 0, turn = below(MOST_RELATED);
+
+    draw_related(related);
+    empty_board(&board, MOST_RELATED * 17);
+    empty_board(&other, MOST_RELATED * 17);
+    for (size_t i = 0; i < MOST_RELATED; i++) {
+        write_alert(&taken[count], &related[(turn + 5 * i) % MOST_RELATED]);
+        if (check_offer(&board, slice_of(&taken[count])) == 0)
+            count++;
+    }
+    for (size_t i = count; i > 0; i--)
+        if (check_offer(&other, slice_of(&taken[i - 1])) != 0)
+            broken("A message that one board took is refused by another.");
+    if (memcmp(board.byte, other.byte, board.length) != 0)
+        broken("The same messages in another order leave another board.");
+    compared.orders += count > 1;
+}
+
+/* A made board, often damaged, that a message is offered to or headers are handed out from. */
+static void case_board(void)
+{
+    static struct bytes board, message;
+    static struct handed handed;
+    static const size_t worlds[] = {1, 2, 3, 10, 100000};
+    size_t records = draw_records();
+    size_t filled = once_in(3) ? records : below(records + 1);
+
+    made_board(&board, records, filled, PICK(worlds));
+    if (once_in(2))
+        damage_board(&board);
+    handed.count = 0;
+    handed.since = 0;
+    if (once_in(2)) {
+        any_message(&message);
+        check_offer(&board, slice_of(&message));
+    }
+    while (check_hand_out(&board, &handed) == 0)
+        ;
+}
+
+/* ---- lengths that 32 bits cannot say */
+
+static struct slice widened(struct slice slice)
+{
+    slice.length += WIDE;
+    return slice;
+}
+
+/* A length is taken whole: what is wide is too long, and no output is short for its low bits. */
+static void wide_message(void)
+{
+    static struct bytes message, board;
+    struct alert alert;
+
+    draw_alert(&alert);
+    write_alert(&message, &alert);
+    check_convert(slice_of(&message), bench_station, (struct lengths){WIDE, WIDE + 1, WIDE + 1023});
+    check_convert(widened(slice_of(&message)), bench_station, just_enough);
+    check_convert(slice_of(&message), widened(bench_station), just_enough);
+    empty_board(&board, 2);
+    check_offer(&board, widened(slice_of(&message)));
+    board.length += WIDE;
+    offer(&board, slice_of(&message));
+    hand_out(&board);
+}
+
+static void wide_header(void)
+{
+    static const uint8_t event[] = "CEM", locations[] = "024031";
+    static const uint8_t header[] = "ZCZC-PEP-CEM-024031+0030-0010000-BENCH/01-";
+    struct parts parts = {1, 30, 1, 0, 0, {event, 3}, {locations, 6}, bench_station};
+    struct slice *part[] = {&parts.event, &parts.locations, &parts.station};
+
+    check_header((struct slice){header, WIDE + 42});
+    if (stuiverhaag_number(write_header(&parts, WIDE)) != 0)
+        broken("An output of more than 4,294,967,295 bytes is refused.");
+    check_read_again(&parts);
+    for (size_t i = 0; i < COUNT(part); i++) {
+        struct slice narrow = *part[i];
+
+        *part[i] = widened(narrow);
+        if (stuiverhaag_number(write_header(&parts, STUIVERHAAG_HEADER)) == 0)
+            broken("A part of more than 4,294,967,295 bytes is written.");
+        *part[i] = narrow;
+    }
+}
+
+/* ---- one case */
+
+void run_case(unsigned long number)
+{
+    size_t kind;
+
+    place.case_number = number;
+    seed_chance(place.seed, number);
+    wind_up();
+    kind = below(10000);
+    if (kind < 1)
+        case_cut();
+    else if (kind < 10 && lends_wide())
+        wide_message();
+    else if (kind < 18 && lends_wide())
+        wide_header();
+    else if (kind < 7800)
+        case_convert();
+    else if (kind < 8400)
+        case_read();
+    else if (kind < 9000)
+        case_write();
+    else if (kind < 9400)
+        case_chain();
+    else if (kind < 9450)
+        case_orders();
+    else
+        case_board();
+}
+
+/* ---- what was compared */
+
+static bool print_compared_of(unsigned long count, const char *what)
+{
+    print_grouped(count);
+    printf(" %s\n", what);
+    return count > 0;
+}
+
+bool print_compared(void)
+{
+    bool all = true;
+
+    puts("calls held beside each other:");
+    all = print_compared_of(compared.written_again, "headers read, and written again to the same bytes") && all;
+    all = print_compared_of(compared.read_again, "headers written, and read again as the same parts") && all;
+    all = print_compared_of(compared.notices, "headers of conversions, on a board after an offer") && all;
+    all = print_compared_of(compared.taken_again, "offers that added, made again to add nothing") && all;
+    all = print_compared_of(compared.successors, "headers handed out behind another, in byte order") && all;
+    all = print_compared_of(compared.orders, "pairs of boards, the same messages in two orders") && all;
+    return all;
+}

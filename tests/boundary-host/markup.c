@@ -1,0 +1,334 @@
+#include "markup.h"
+
+#include <string.h>
+
+#define DAY 86400
+#define NONE ((size_t)-1)
+
+/* How freely a message is written: each is a chance of one in so many, 0 for never. */
+struct style {
+    const char *prefix;
+    size_t gaps, comments, references, skipped;
+};
+
+/* Which of the leaves, counted as they are written, is at fault, and whether the root is. */
+struct faults {
+    size_t next, missing, twice, holding, odd;
+    bool root;
+};
+
+static struct style style;
+static struct faults faults;
+
+static bool happens(size_t times)
+{
+    return times > 0 && once_in(times);
+}
+
+/* ---- words and times */
+
+void draw_word(char *word, size_t length)
+{
+    static const char letters[] = "abcXYZ019!~@.-_'>\"/;]#";
+
+    for (size_t i = 0; i < length; i++)
+        word[i] = letters[below(sizeof letters - 1)];
+    word[length] = '\0';
+}
+
+void draw_text(char *text, size_t length)
+{
+    static const char odd[] = "<&>\"']-~!*.,";
+
+    for (size_t i = 0; i < length; i++) {
+        size_t kind = below(40);
+
+        text[i] = kind < 6 ? ' ' : kind == 6 ? odd[below(sizeof odd - 1)] : (char)('a' + below(26));
+    }
+    text[length] = '\0';
+}
+
+static int64_t year_length(int64_t year)
+{
+    return 365 + (year % 4 == 0 && (year % 100 != 0 || year % 400 == 0));
+}
+
+/* The day of an instant from the first day of 2000 on, downwards before it. */
+static int64_t day_of(int64_t seconds)
+{
+    return (seconds >= 0 ? seconds : seconds - (DAY - 1)) / DAY;
+}
+
+/* Year, and day of the year from 0, of a day counted from the first of 2000. */
+static int64_t year_and_day(int64_t *day)
+{
+    int64_t year = 2000;
+
+    while (*day < 0)
+        *day += year_length(--year);
+    while (*day >= year_length(year))
+        *day -= year_length(year++);
+    return year;
+}
+
+void put_moment(struct bytes *out, int64_t sent)
+{
+    int64_t day = sent / DAY;
+
+    year_and_day(&day);
+    put_number(out, (uint64_t)day + 1, 3);
+    put_number(out, (uint64_t)(sent % DAY / 3600), 2);
+    put_number(out, (uint64_t)(sent % DAY / 60 % 60), 2);
+}
+
+static void put_date(struct bytes *out, int64_t day)
+{
+    int lengths[12] = {31, 28, 31, 30, 31, 30, 31, 31, 30, 31, 30, 31};
+    int64_t year = year_and_day(&day);
+    unsigned month = 0;
+
+    lengths[1] = (int)year_length(year) - 337;
+    while (day >= lengths[month])
+        day -= lengths[month++];
+    put_number(out, (uint64_t)year, 4);
+    put_byte(out, '-');
+    put_number(out, month + 1, 2);
+    put_byte(out, '-');
+    put_number(out, (uint64_t)day + 1, 2);
+}
+
+void put_time(struct bytes *out, int64_t utc, int zone)
+{
+    int64_t local = utc + zone * 60;
+    uint64_t second = (uint64_t)(local - day_of(local) * DAY);
+    unsigned minutes = (unsigned)(zone < 0 ? -zone : zone);
+
+    put_date(out, day_of(local));
+    put_byte(out, 'T');
+    put_number(out, second / 3600, 2);
+    put_byte(out, ':');
+    put_number(out, second / 60 % 60, 2);
+    put_byte(out, ':');
+    put_number(out, second % 60, 2);
+    put_byte(out, zone < 0 ? '-' : '+');
+    put_number(out, minutes / 60, 2);
+    put_byte(out, ':');
+    put_number(out, minutes % 60, 2);
+}
+
+/* ---- markup */
+
+static const char *const gaps[] = {" ", "\n", "\t", "\r\n", "  ", "\n\n "};
+
+static const char *const comments[] = {
+    "<!---->", "<!-- - -->", "<!--->-->", "<!--<a>&b]]>-->", "<!--\n-->", "<!--x--><!----><!--y-->",
+};
+
+static const char *const skipped[] = {
+    "<note/>",
+    "<q:info><eventCode/></q:info>",
+    "<z a = '1'\tb=\"&lt;>\" />",
+    "<web>http://x/&amp;y</web >",
+    "<z><info><expires/></info>t</z>",
+    "<contact\n>c<!-- -->d</contact\t>",
+    "<z q:a=\"\" r:a=''/>",
+    "<a><b><c><d><e><f><g><h/></g></f></e></d></c></b></a>",
+};
+
+/* What the subset allows nowhere, or nowhere in text. */
+static const char *const odd[] = {
+    "<a>", "</a>", "<a></b>", "<a b=1/>", "<a b='1'c='2'/>", "<a b='1' b='2'/>", "<a b='<'/>", "<a b='x\"/>",
+    "<a b/>", "< a/>", "<a/ >", "&", "&;", "&foo;", "&lt", "&#;", "&#x;", "&#X41;", "&#0;", "&#31;", "&#127;",
+    "&#x1F;", "&#0000065;", "&#999999;", "&#x4g;", "]]>", "<!-->", "<!--a--->", "<!-- -- -->", "<![CDATA[x]]>",
+    "<!DOCTYPE a>", "<?pi x?>", "\x01", "\x7f", "\xc3\xa9", "\xff", "<1a/>", "<a:/>", "<:a/>", "<a:b:c/>",
+    "<a><b><c><d><e><f><g><h><i><j/></i></h></g></f></e></d></c></b></a>",
+    "<a><b><c><d><e><f><g><h><i><j><k><l/></k></j></i></h></g></f></e></d></c></b></a>",
+};
+
+void put_gap(struct bytes *out)
+{
+    if (happens(style.gaps))
+        put(out, PICK(gaps));
+}
+
+void put_between(struct bytes *out)
+{
+    put_gap(out);
+    if (happens(style.comments))
+        put(out, PICK(comments));
+    if (happens(style.skipped))
+        put(out, PICK(skipped));
+    put_gap(out);
+}
+
+static void put_name(struct bytes *out, const char *name)
+{
+    if (style.prefix != NULL) {
+        put(out, style.prefix);
+        put_byte(out, ':');
+    }
+    put(out, name);
+}
+
+void put_start(struct bytes *out, const char *name)
+{
+    put_byte(out, '<');
+    put_name(out, name);
+    if (happens(style.skipped))
+        put(out, " a=\"&#x41;>'\"");
+    put_gap(out);
+    put_byte(out, '>');
+}
+
+void put_end(struct bytes *out, const char *name)
+{
+    put(out, "</");
+    put_name(out, name);
+    put_gap(out);
+    put_byte(out, '>');
+}
+
+/* A character by its number, in one of the ways to write it. */
+static void put_numbered(struct bytes *out, unsigned character)
+{
+    static const char digits[] = "0123456789abcdef";
+
+    put(out, "&#");
+    if (once_in(2)) {
+        put_number(out, character, once_in(2) ? 1 : 6);
+    } else {
+        put(out, once_in(2) ? "x" : "x0000");
+        put_byte(out, (unsigned)digits[character / 16]);
+        put_byte(out, (unsigned)digits[character % 16]);
+    }
+    put_byte(out, ';');
+}
+
+static bool ends_in_brackets(const struct bytes *out)
+{
+    return out->length >= 2 && memcmp(out->byte + out->length - 2, "]]", 2) == 0;
+}
+
+static void put_character(struct bytes *out, char character)
+{
+    if (happens(style.references))
+        put_numbered(out, (unsigned)character);
+    else if (character == '<')
+        put(out, "&lt;");
+    else if (character == '&')
+        put(out, "&amp;");
+    else if (character == '>' && ends_in_brackets(out))
+        put(out, "&gt;");
+    else
+        put_byte(out, (unsigned)character);
+    if (character == ' ')
+        put_gap(out);
+    if (happens(style.comments * 16))
+        put(out, PICK(comments));
+}
+
+static void put_characters(struct bytes *out, const uint8_t *text, size_t length)
+{
+    put_gap(out);
+    for (size_t i = 0; i < length; i++)
+        put_character(out, (char)text[i]);
+    put_gap(out);
+}
+
+static void put_once(struct bytes *out, const char *name, const uint8_t *text, size_t length, size_t number)
+{
+    put_between(out);
+    put_start(out, name);
+    put_characters(out, text, length);
+    if (number == faults.holding)
+        put(out, PICK(skipped));
+    if (number == faults.odd)
+        put(out, PICK(odd));
+    put_end(out, name);
+}
+
+void put_leaf_of(struct bytes *out, const char *name, const uint8_t *text, size_t length)
+{
+    size_t number = faults.next++;
+
+    if (number == faults.missing)
+        return;
+    put_once(out, name, text, length, number);
+    if (number == faults.twice)
+        put_once(out, name, text, length, number);
+}
+
+void put_leaf(struct bytes *out, const char *name, const char *text)
+{
+    if (text != NULL)
+        put_leaf_of(out, name, (const uint8_t *)text, strlen(text));
+}
+
+void put_pair(struct bytes *out, const char *name, const char *value_name, const char *value)
+{
+    bool turned = once_in(8);
+
+    put_between(out);
+    put_start(out, name);
+    if (turned)
+        put_leaf(out, "value", value);
+    put_leaf(out, "valueName", value_name);
+    if (!turned)
+        put_leaf(out, "value", value);
+    put_between(out);
+    put_end(out, name);
+}
+
+void put_root(struct bytes *out)
+{
+    static const char *const others[] = {"urn:oasis:names:tc:emergency:cap:1.1", NAMESPACE " ", "", "&#117;rn:oasis"};
+
+    put_byte(out, '<');
+    put_name(out, "alert");
+    put(out, once_in(8) ? "\n x='1' xmlns" : " xmlns");
+    if (style.prefix != NULL) {
+        put_byte(out, ':');
+        put(out, faults.root && once_in(2) ? "z" : style.prefix);
+    }
+    put(out, once_in(8) ? " = \"" : "=\"");
+    put(out, faults.root ? PICK(others) : NAMESPACE);
+    put(out, "\">");
+}
+
+/* ---- how a message is written */
+
+void draw_style(void)
+{
+    static const char *const prefixes[] = {NULL, NULL, NULL, "p", "cap", "a.b-c_d", "alert", "xml"};
+    static const size_t odds[] = {0, 0, 1, 3, 8};
+    static const size_t rare[] = {0, 0, 0, 2, 8, 20};
+
+    style.prefix = PICK(prefixes);
+    style.gaps = PICK(odds);
+    style.comments = PICK(rare);
+    style.references = PICK(rare);
+    style.skipped = PICK(rare);
+    faults = (struct faults){0, NONE, NONE, NONE, NONE, false};
+}
+
+void draw_fault(void)
+{
+    size_t number = once_in(2) ? below(7) : below(60);
+
+    switch (below(5)) {
+    case 0:
+        faults.missing = number;
+        break;
+    case 1:
+        faults.twice = number;
+        break;
+    case 2:
+        faults.holding = number;
+        break;
+    case 3:
+        faults.odd = number;
+        break;
+    default:
+        faults.root = true;
+    }
+}

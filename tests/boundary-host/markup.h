@@ -1,0 +1,46 @@
+/* Markup of the subset: leaves and pairs, written as freely as a message may be, and times. */
+#ifndef MARKUP_H
+#define MARKUP_H
+
+#include "chance.h"
+
+#define NAMESPACE "urn:oasis:names:tc:emergency:cap:1.2"
+
+/* Seconds since 2000 began at which 2100 begins. */
+#define END_OF_TIME INT64_C(3155760000)
+
+/* Draws how freely the next message is written, and that it has no fault. */
+void draw_style(void);
+
+/* Draws one: a leaf missing, there twice, or holding an element or what the subset does not allow; another root. */
+void draw_fault(void);
+
+/* Letters of a sender or an identifier. */
+void draw_word(char *word, size_t length);
+
+/* Words of so many characters, with characters among them that XML must encode. */
+void draw_text(char *text, size_t length);
+
+/* An instant, in seconds since 2000 began, as CAP writes it in a zone of so many minutes. */
+void put_time(struct bytes *out, int64_t utc, int zone);
+
+/* JJJHHMM of an instant. */
+void put_moment(struct bytes *out, int64_t utc);
+
+/* White space, or none; and what else may stand between elements. */
+void put_gap(struct bytes *out);
+void put_between(struct bytes *out);
+
+/* The root's start tag, and tags of a name with the root's prefix. */
+void put_root(struct bytes *out);
+void put_start(struct bytes *out, const char *name);
+void put_end(struct bytes *out, const char *name);
+
+/* An element that holds text alone, but for the fault. It is left out where the text is NULL. */
+void put_leaf(struct bytes *out, const char *name, const char *text);
+void put_leaf_of(struct bytes *out, const char *name, const uint8_t *text, size_t length);
+
+/* An eventCode, parameter or geocode. */
+void put_pair(struct bytes *out, const char *name, const char *value_name, const char *value);
+
+#endif

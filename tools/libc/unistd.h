@@ -1,0 +1,2 @@
+/* What the hosts in C use of unistd: see stdio.h. */
+unsigned alarm(unsigned);
