@@ -1,192 +1,126 @@
--- Demand 2 of a conversion: a message s, a station, and outputs of h, t and u bytes.
---     gives-all              an answer 0 that is not quiet gives the header of exactly these parts, the text, audio and must-carry
---     header-reads-back      that header reads back as these parts
---     text-short             the text never passes 1,800 characters
---     quiet-gives-nothing, refusal-gives-nothing, nothing-touches-nothing
--- And of headers read and written: read-gives-back, write-gives-back.
-use Prim.Native.Nat.{ℕ, _+_, _≤_, min}
-use mathlib.Core.Path.{_≡_, refl, ap, _∙_, subst}
-use mathlib.Core.Bool.{Bool, true, false, _&&_, not}
+-- Demand 2: a message s, a station, and outputs of h, t and u bytes.
+--     demand-2     the header is the one of the parts that the message says, the text never passes 1,800 characters, and headers read and write back
+--     on-board     a header on a board is the conversion's without its station (of demand 3)
+use Prim.Native.Nat.{ℕ, _≤_}
+use mathlib.Core.Path.{_≡_, refl, sym, ap, ap₂, _∙_, subst}
+use mathlib.Core.Bool.{true, false, _&&_, not}
 use mathlib.Core.List.{List, [], _∷_, _++_}
 use native.Mathlib.Omega.{arith}
-use borrow.Author.Tests.{eq-eqb, ne-eqb, eqb-true, eqb-false}
-use lib.ListN.{length, take, drop}
-use lib.Seq.{sets}
+use borrow.Author.Tests.{eq-eqb, eqb-true, not-true, not-false}
+use lib.ListN.{length, drop}
 use lib.Dec.{eqb}
 use Rattle.octets.specs.Bytes.{pick}
-use Rattle.parts.specs.Asked.{padded}
-use Rattle.parts.specs.Parts.{bodyOk, stationOk}
+use Rattle.octets.proofs.Tests.{and-left, and-right, either-way}
+use Rattle.parts.specs.Parts as parts
 use Rattle.parts.specs.declared.Body.{Body}
-use Rattle.parts.specs.declared.Parts.{Parts}
-use Rattle.parts.proofs.Has.{Has, has}
-use Rattle.header.specs.Header.{readOf}
+use Rattle.parts.proofs.Has.{has}
+use Rattle.header.specs.Body.{bodyBytes}
+use Rattle.header.specs.Header.{headerBytes, readOf}
+use Rattle.header.specs.declared.Written.{Written}
 use Rattle.header.proofs.WriteThenRead.{read-header-bytes, read-written-header}
 use Rattle.header.proofs.ReadThenWrite.{write-read-header}
-use Rattle.markup.specs.Tree.{One, one, none}
-use Rattle.markup.specs.Document.{docAt}
-use Rattle.reads.specs.declared.Locations.{Locations}
-use Rattle.gather.specs.Read.{Element, named, infoOf, fromEnglish, selected, alertOf}
-use Rattle.leaves.proofs.Codes.{locations-are, locations-padded}
-use Rattle.message.specs.Root.{prefixOf}
-use Rattle.message.specs.Message.{judged, messageOf}
-use Rattle.message.specs.declared.Message.{Message}
 use Rattle.sentence.specs.Words.{sentenceOf}
 use Rattle.sentence.proofs.Lengths.{sentence-le}
 use Rattle.wording.proofs.Texts.{text-le}
-use Rattle.judgement.specs.Rules.{quietOf}
-use Rattle.judgement.specs.Judged.{without, bodyWith, bodyIn, alerted, judgedBy, judgedOf}
-use Rattle.judgement.specs.declared.Judged.{Judged}
-use Rattle.judgement.proofs.Answers.{alerted-holds}
-use Rattle.judgement.proofs.Bodies.{alerting, alert-body, body-ok, message-kept}
-use Rattle.convert.specs.Convert.{Given, nothing, textIn, alertGiven, Outcome, roomy, outcomeOf, convertOf}
-use Rattle.demands.specs.Calls.{conversion, reading, writing, written}
-use Rattle.demands.specs.Numbers.{alertIn, said}
-use Rattle.demands.specs.Whole.{selectedContent, codesOf, headerBody, headerParts, wholeOf}
-use Rattle.demands.proofs.Numbers.{message-said}
+use Rattle.judgement.specs.Judged.{judgedOf}
+use Rattle.judgement.proofs.Bodies.{body-ok}
+use Rattle.records.specs.Record.{pad}
+use Rattle.convert.specs.Convert.{Given, nothing, alertGiven, Outcome, roomy, outcomeOf, convertOf}
+use Rattle.demands.specs.Calls.{library}
+use Rattle.demands.specs.Message.{isQuiet, headerBody, headerParts, wholeOf}
+use Rattle.demands.specs.Board.{ownHeader}
+use Rattle.demands.specs.Numbers.{noneApplies, conversionRows}
+use Rattle.demands.specs.Demands.{Demand2}
+use Rattle.demands.proofs.Rows.{each-off}
+use Rattle.demands.proofs.Messages.{quiet-is, body-is, whole-is}
+use Rattle.demands.proofs.Conversions.{convert-holds, convert-numbered}
 
--- ---- the locations
+-- ---- a message that answers 0 and is not quiet
 
-selected-is : (s p : List ℕ) (en all : List Element) → selected s p en all ≡ infoOf s p (selectedContent en all)
-unfolding selected selectedContent infoOf named
-selected-is s p [] [] = refl
-selected-is s p [] (e ∷ es) = refl
-selected-is s p (e ∷ es) all = refl
+module _ (s : List ℕ) (zero : judgedOf s .number ≡ 0) (loud : isQuiet s ≡ false) where
+  body-sound : parts.bodyOk (headerBody s) ≡ true
+  body-sound = subst (λ (b : Body). parts.bodyOk b ≡ true) (body-is s zero loud) (body-ok s zero (quiet-is s zero ∙ loud))
 
-record Placed (l : Locations) (codes : List ℕ) : Type 0 where
-  count : l .count ≡ min 31 (length codes)
-  list : l .list ≡ padded (take 31 codes)
+  whole-short : (station : List ℕ) → length (wholeOf s station .text) ≤ 1800
+  unfolding wholeOf
+  whole-short station =
+      let k = has (headerBody s) body-sound in
+      text-le (sentenceOf (headerBody s)) _ _ _ _ (omega (arith, sentence-le (headerBody s) (k .three) (k .few)))
 
-placed : (s : List ℕ) (o : One) → Placed (alertIn s o .info .locations) (codesOf s o)
-unfolding alertOf
-placed s none = record { count = refl; list = refl }
-placed s (one g kids e) =
-    let p = prefixOf s (g .from + 1) (g .name) in
-    let t = selectedContent (fromEnglish s p (named s p "info" kids)) (named s p "info" kids) in
-    rw (selected-is s p (fromEnglish s p (named s p "info" kids)) (named s p "info" kids))
-    (record { count = locations-are s p t .count; list = locations-padded s p t })
+-- ---- a conversion
 
-body-is : (s : List ℕ) → bodyIn s (said s) ≡ headerBody s
-unfolding judged bodyWith headerBody
-body-is s = rw (placed s (docAt s) .count, placed s (docAt s) .list)
-
--- ---- a message that answers 0
-
-alerted-loud : (s : List ℕ) (m : Message) → alerted s m .quiet ≡ false
-alerted-loud s m = alerted-holds s m (λ (j : Judged). j .quiet ≡ false) (λ n h. refl) refl
-
-module _ (s : List ℕ) (zero : judgedOf s .number ≡ 0) where
-  message-zero : messageOf s .number ≡ 0
-  unfolding judgedBy
-  message-zero = go (eqb (messageOf s .number) 0) refl
+module _ (s station : List ℕ) (h t u : ℕ) where
+  text-short : length (library .conversion s station h t u .given .text) ≤ 1800
+  unfolding outcomeOf
+  text-short =
+      let j = judgedOf s in
+      convert-holds s station h t u (λ (o : Outcome). length (o .given .text) ≤ 1800) (omega arith) (omega arith)
+      (either-way (λ (g : Given). length (g .text) ≤ 1800) (eqb (j .number) 0 && not (j .quiet)) (alertGiven s station j) nothing loud (λ _. omega arith))
     where
-      go : (b : Bool) → eqb (messageOf s .number) 0 ≡ b → messageOf s .number ≡ 0
-      go true e = eqb-true (messageOf s .number) 0 e
-      go false e = rw e at zero
+      loud : (eqb (judgedOf s .number) 0 && not (judgedOf s .quiet)) ≡ true → length (alertGiven s station (judgedOf s) .text) ≤ 1800
+      loud e =
+          let j = judgedOf s in
+          let z = eqb-true (j .number) 0 (and-left (eqb (j .number) 0) (not (j .quiet)) e) in
+          let q : isQuiet s ≡ false = sym (quiet-is s z) ∙ not-true (j .quiet) (and-right (eqb (j .number) 0) (not (j .quiet)) e) in
+          rw (whole-is s z station q) (whole-short s z q station)
 
-  is-said : messageOf s ≡ said s
-  is-said = message-said s message-zero
+  module _ (none : noneApplies (conversionRows s station h t u) ≡ true) where
+    record Passed : Type 0 where
+      station-ok : parts.stationOk station ≡ true
+      judged-zero : judgedOf s .number ≡ 0
+      outcome : convertOf s station h t u ≡ outcomeOf s station (judgedOf s)
 
-  kept : judgedOf s .message ≡ said s
-  kept = message-kept s (messageOf s) ∙ is-said
+    passed : Passed
+    unfolding convertOf outcomeOf roomy parts.stationOk parts.isStation
+    passed =
+        let rows = conversionRows s station h t u in
+        let room : roomy h t u ≡ true = not-false _ (each-off 0 rows none) in
+        let named : parts.stationOk station ≡ true = not-false _ (each-off 1 rows none) in
+        let o : convertOf s station h t u ≡ outcomeOf s station (judgedOf s) = rw (room, named) in
+        record {
+          station-ok = named;
+          judged-zero = sym (ap (λ (x : Outcome). x .number) o) ∙ convert-numbered s station h t u .zero-exactly .1 none;
+          outcome = o;
+        }
 
-  quiet-is : judgedOf s .quiet ≡ quietOf (said s)
-  unfolding judgedBy
-  quiet-is = rw (eq-eqb (messageOf s .number) 0 message-zero) (go (quietOf (messageOf s))) ∙ ap quietOf is-said
-    where
-      go : (b : Bool) → pick b (without (messageOf s) 0 true) (alerted s (messageOf s)) .quiet ≡ b
-      go true = refl
-      go false = alerted-loud s (messageOf s)
+    given-is : library .conversion s station h t u .given ≡ pick (not (isQuiet s)) (alertGiven s station (judgedOf s)) nothing
+    unfolding outcomeOf
+    given-is =
+        let z = passed .judged-zero in
+        ap (λ (o : Outcome). o .given) (passed .outcome) ∙ rw (eq-eqb (judgedOf s .number) 0 z, quiet-is s z)
 
-  module _ (loud : quietOf (said s) ≡ false) where
-    body-said : judgedOf s .body ≡ headerBody s
-    body-said = alert-body s (messageOf s) (alerting s (messageOf s) zero (quiet-is ∙ loud)) ∙ ap (bodyIn s) is-said ∙ body-is s
+    quiet-gives-nothing : isQuiet s ≡ true → library .conversion s station h t u .given ≡ nothing
+    quiet-gives-nothing quiet = given-is ∙ rw quiet
 
-    whole-is : (station : List ℕ) → alertGiven s station (judgedOf s) ≡ wholeOf s station
-    unfolding alertGiven wholeOf textIn
-    whole-is station = rw (body-said, kept)
+    module _ (loud : isQuiet s ≡ false) where
+      gives-all : library .conversion s station h t u .given ≡ wholeOf s station
+      gives-all = given-is ∙ rw loud (whole-is s (passed .judged-zero) station loud)
 
-    pub body-sound : bodyOk (headerBody s) ≡ true
-    body-sound = subst (λ (b : Body). bodyOk b ≡ true) body-said (body-ok s zero (quiet-is ∙ loud))
+      header-reads-back : library .reading (library .conversion s station h t u .given .header) ≡ record { number = 0; parts = headerParts s station }
+      unfolding wholeOf
+      header-reads-back =
+          ap (λ (g : Given). readOf (g .header)) gives-all
+          ∙ read-header-bytes (headerParts s station) (body-sound s (passed .judged-zero) loud) (passed .station-ok)
 
-whole-short : (s station : List ℕ) → Has (headerBody s) → length (wholeOf s station .text) ≤ 1800
-unfolding wholeOf
-whole-short s station k = text-le (sentenceOf (headerBody s)) _ _ _ _ (omega (arith, sentence-le (headerBody s) (k .three) (k .few)))
+      -- a header on a board is the conversion's without its station
+      pub on-board : (front : List ℕ) × (ownHeader s ≡ pad 243 front) × (library .conversion s station h t u .given .header ≡ front ++ (station ++ (45 ∷ [])))
+      unfolding wholeOf headerBytes
+      on-board = (bodyBytes (headerBody s), refl, ap (λ (g : Given). g .header) gives-all)
 
 -- ---- the demand
 
-module _ (s station : List ℕ) (h t u : ℕ) where
-  record Passed : Type 0 where
-    station-ok : stationOk station ≡ true
-    judged-zero : judgedOf s .number ≡ 0
-    outcome : convertOf s station h t u ≡ outcomeOf s station (judgedOf s)
+write-gives-back : (s d : List ℕ) → library .reading s .number ≡ 0 → 252 ≤ length d →
+    library .writing d (library .reading s .parts) ≡ record { answer = record { number = 0; len = length s }; bytes = s ++ drop (length s) d }
+write-gives-back s d zero room =
+    let w = write-read-header s d zero room in
+    ap₂ (λ (x : Written) (y : List ℕ). record { answer = x; bytes = y }) (w .0) (w .1)
 
-  passes : convertOf s station h t u .number ≡ 0 → Passed
-  unfolding convertOf outcomeOf
-  passes e = go (roomy h t u) refl (stationOk station) refl
-    where
-      go : (a : Bool) → roomy h t u ≡ a → (b : Bool) → stationOk station ≡ b → Passed
-      go false a b _ = let n : _≡_ {A = ℕ} 2 0 = rw a at e in absurd (omega arith)
-      go true a false b = let n : _≡_ {A = ℕ} 3 0 = rw (a, b) at e in absurd (omega arith)
-      go true a true b = record { station-ok = b; judged-zero = rw (a, b) at e; outcome = rw (a, b) }
-
-  module _ (zero : conversion s station h t u .number ≡ 0) where
-    module _ (loud : quietOf (said s) ≡ false) where
-      -- The header is the one of these parts, the alert text and audio choice are those of document 01.
-      pub gives-all : conversion s station h t u .given ≡ wholeOf s station
-      unfolding outcomeOf
-      gives-all =
-          let p = passes zero in
-          let j = judgedOf s in
-          let test : (eqb (j .number) 0 && not (j .quiet)) ≡ true = rw (eq-eqb (j .number) 0 (p .judged-zero), quiet-is s (p .judged-zero) ∙ loud) in
-          ap (λ (o : Outcome). o .given) (p .outcome) ∙ ap (λ (b : Bool). pick b (alertGiven s station j) nothing) test ∙ whole-is s (p .judged-zero) loud station
-
-      -- Reading it gives back its originator, event, locations in order, period, time and station.
-      pub header-reads-back : reading (conversion s station h t u .given .header) ≡ record { number = 0; parts = headerParts s station }
-      unfolding wholeOf
-      header-reads-back =
-          let p = passes zero in
-          ap (λ (g : Given). readOf (g .header)) gives-all ∙ read-header-bytes (headerParts s station) (body-sound s (p .judged-zero) loud) (p .station-ok)
-
-    -- A quiet Cancel answers 0, with no header, text or audio.
-    pub quiet-gives-nothing : quietOf (said s) ≡ true → conversion s station h t u .given ≡ nothing
-    unfolding outcomeOf
-    quiet-gives-nothing q =
-        let p = passes zero in
-        ap (λ (o : Outcome). o .given) (p .outcome) ∙ rw (p .judged-zero, quiet-is s (p .judged-zero) ∙ q)
-
-  -- A refusal gives nothing,
-  pub refusal-gives-nothing : (conversion s station h t u .number ≡ 0 → ⊥) → conversion s station h t u .given ≡ nothing
-  unfolding convertOf outcomeOf
-  refusal-gives-nothing e = go (roomy h t u) refl (stationOk station) refl
-    where
-      go : (a : Bool) → roomy h t u ≡ a → (b : Bool) → stationOk station ≡ b → conversion s station h t u .given ≡ nothing
-      go false a b _ = rw a
-      go true a false b = rw (a, b)
-      go true a true b = let n : judgedOf s .number ≡ 0 → ⊥ = rw (a, b) at e in rw (a, b, ne-eqb (judgedOf s .number) 0 n)
-
-  -- and where nothing is given no lent byte changes.
-  pub nothing-touches-nothing : conversion s station h t u .given ≡ nothing → (header text uri : List ℕ) →
-      (sets header 0 (conversion s station h t u .given .header) ≡ header) × (sets text 0 (conversion s station h t u .given .text) ≡ text) × (sets uri 0 (conversion s station h t u .given .uri) ≡ uri)
-  nothing-touches-nothing e header text uri = rw e (refl, refl, refl)
-
-  -- The text never passes 1,800 characters.
-  pub text-short : length (conversion s station h t u .given .text) ≤ 1800
-  text-short = go (eqb (conversion s station h t u .number) 0) refl (quietOf (said s)) refl
-    where
-      go : (a : Bool) → eqb (conversion s station h t u .number) 0 ≡ a → (b : Bool) → quietOf (said s) ≡ b → length (conversion s station h t u .given .text) ≤ 1800
-      go false a b _ = rw (refusal-gives-nothing (eqb-false (conversion s station h t u .number) 0 a)) (omega arith)
-      go true a true q = rw (quiet-gives-nothing (eqb-true (conversion s station h t u .number) 0 a) q) (omega arith)
-      go true a false q =
-          let z = eqb-true (conversion s station h t u .number) 0 a in
-          rw (gives-all z q) (whole-short s station (has (headerBody s) (body-sound s (passes z .judged-zero) q)))
-
--- ---- headers
-
--- Reading a written header gives back its originator, event, locations in order, period, time and station.
-pub read-gives-back : (d : List ℕ) (p : Parts) → writing d p .number ≡ 0 → reading (take (writing d p .len) (written d p)) ≡ record { number = 0; parts = p }
-read-gives-back d p zero = read-written-header d p zero
-
--- Writing what was read from any accepted header gives the same bytes.
-pub write-gives-back : (s d : List ℕ) → reading s .number ≡ 0 → 252 ≤ length d →
-    (writing d (reading s .parts) ≡ record { number = 0; len = length s }) × (written d (reading s .parts) ≡ s ++ drop (length s) d)
-write-gives-back s d zero room = write-read-header s d zero room
+pub demand-2 : Demand2 library
+demand-2 = record {
+  gives-all = gives-all;
+  quiet-gives-nothing = quiet-gives-nothing;
+  text-short = text-short;
+  header-reads-back = header-reads-back;
+  read-gives-back = read-written-header;
+  write-gives-back = write-gives-back;
+}

@@ -1,4 +1,4 @@
--- The calls that the demands speak of, each as its function's promise gives it. A stand-in put in the place of one is refused by the theorems.
+-- The calls that the demands speak of, as a record: a demand is a statement over any such record, which a stand-in meets or not.
 use Prim.Native.Nat.{ℕ}
 use mathlib.Core.List.{List}
 use Rattle.parts.specs.declared.Parts.{Parts}
@@ -9,30 +9,32 @@ use Rattle.convert.specs.Convert.{Outcome, convertOf}
 use Rattle.board.specs.Calls.{Handing, handOf, Listing, listOf}
 use Rattle.offers.specs.Offer.{Offering, offerOf}
 
--- converting the message s for a station, into outputs of these lengths
-abbrev pub conversion : List ℕ → List ℕ → ℕ → ℕ → ℕ → Outcome
-conversion s station header text uri = convertOf s station header text uri
+-- what writing a header answers, and the output after it
+pub record Writing : Type 0 where
+  pub answer : Written
+  pub bytes : List ℕ
 
--- offering the message s to the board b
-abbrev pub offering : List ℕ → List ℕ → Offering
-offering b s = offerOf b s
+pub record Calls : Type 0 where
+  -- converting the message s for a station, into outputs of these lengths
+  pub conversion : (s station : List ℕ) (header text uri : ℕ) → Outcome
+  -- offering the message s to the board b
+  pub offering : (b s : List ℕ) → Offering
+  -- a hand-out of the board b
+  pub handing : (b : List ℕ) → Handing
+  -- the list of the board b into so many rows
+  pub listing : (b : List ℕ) (rows : ℕ) → Listing
+  -- reading the header s
+  pub reading : (s : List ℕ) → Read
+  -- writing a header of the parts p into the output d
+  pub writing : (d : List ℕ) (p : Parts) → Writing
 
--- a hand-out of the board b
-abbrev pub handing : List ℕ → Handing
-handing b = handOf b
-
--- the list of the board b into m rows
-abbrev pub listing : List ℕ → ℕ → Listing
-listing b m = listOf b m
-
--- reading the header s
-abbrev pub reading : List ℕ → Read
-reading s = readOf s
-
--- writing a header of the parts p into the output d
-abbrev pub writing : List ℕ → Parts → Written
-writing d p = writeOf d p
-
--- the output after that
-abbrev pub written : List ℕ → Parts → List ℕ
-written d p = writeBytes d p
+-- the calls of the library, each as its function's promise gives it
+abbrev pub library : Calls
+library = record {
+  conversion = convertOf;
+  offering = offerOf;
+  handing = handOf;
+  listing = listOf;
+  reading = readOf;
+  writing = λ d p. record { answer = writeOf d p; bytes = writeBytes d p };
+}

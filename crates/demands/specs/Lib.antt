@@ -1,4 +1,7 @@
 pub mod Calls
+pub mod Message
+pub mod Board
 pub mod Numbers
-pub mod Whole
-pub mod Boards
+pub mod Runs
+pub mod Demands
+pub mod StandIns

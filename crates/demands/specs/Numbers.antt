@@ -1,35 +1,33 @@
--- "Numbers returned": each number with the condition under which it applies. s is the message.
-use Prim.Native.Nat.{ℕ, _+_, _*_}
+-- "Numbers returned": each number with the condition under which it applies, in the order in which a call asks them. s is a message, b a board.
+use Prim.Native.Nat.{ℕ, _+_, _-_, _*_, _/_, _%_}
+use mathlib.Core.Path.{_≡_}
+use mathlib.Core.Logic.{_↔_}
 use mathlib.Core.Bool.{Bool, true, false, _&&_, not}
-use mathlib.Core.List.{List, [], _∷_, _++_}
-use lib.ListN.{length}
-use lib.Dec.{eqb, leb}
-use Rattle.octets.specs.Bytes.{pick, every, between}
-use Rattle.parts.specs.Originator.{isKnown}
-use Rattle.parts.specs.Parts.{bodyOk, stationOk}
+use mathlib.Core.List.{List, [], _∷_, _++_, map}
+use lib.ListN.{length, drop}
+use lib.Dec.{eqb, leb, ltb}
+use Rattle.octets.specs.Bytes.{pick, every, holds, between, oneOf, isCapital}
+use Rattle.clock.specs.Time.{timeOf, isTime}
+use Rattle.parts.specs.Parts.{bodyOk}
 use Rattle.parts.specs.declared.Parts.{Parts}
 use Rattle.header.specs.Header.{headerForm}
 use Rattle.markup.specs.Tree.{One, one, none}
 use Rattle.markup.specs.Document.{docAt}
-use Rattle.reads.specs.Leaves.{fresh}
-use Rattle.reads.specs.declared.Alert.{Alert}
-use Rattle.gather.specs.Read.{alertOf}
-use Rattle.message.specs.Root.{prefixOf, rootOk}
-use Rattle.message.specs.Judged.{leafAt, statusOf, scopeOf, referenced, asksReferences}
-use Rattle.message.specs.Message.{judged}
-use Rattle.message.specs.declared.Message.{Message}
-use Rattle.judgement.specs.Rules.{infoIn, eventIs, originOf, located, quietOf}
-use Rattle.judgement.specs.Judged.{lasting}
-use Rattle.convert.specs.Convert.{roomy}
-use Rattle.records.specs.Record.{aired}
-use Rattle.ledger.specs.Sorted.{insert, insertAll}
-use Rattle.ledger.specs.Board.{due, rowsOf}
-use Rattle.board.specs.Rules.{boardOf, boardOk}
-use Rattle.offers.specs.Records.{recordsOf}
+use Rattle.fields.specs.References.{senderOf, identifierOf, sentOf, words}
+use Rattle.records.specs.Record.{zeros, recordOk}
+use Rattle.ledger.specs.Sorted.{In, ascending}
+use Rattle.board.specs.Rules.{boardOf}
+use Rattle.told.specs.Values.{isNone, firstOf, is, isOne, once, isSix, infoSound, languagesSound}
+use Rattle.message.specs.Root.{rootOk}
+use Rattle.demands.specs.Message.{prefix, alert, info, identifier, sender, sent, status, msgType, scope, references, expires, events, locations, originator, isQuiet, sentSeconds, expiresSeconds}
+use Rattle.demands.specs.Board.{messageRecords, newTo, dueHeaders}
 
 pub record Row : Type 0 where
   pub number : ℕ
   pub applies : Bool
+
+abbrev pub row : ℕ → Bool → Row
+row n b = record { number = n; applies = b }
 
 -- lowest applicable wins; 0 where none applies
 unfoldable pub lowestIn : List Row → ℕ
@@ -38,6 +36,12 @@ lowestIn (r ∷ rs) = pick (r .applies) (r .number) (lowestIn rs)
 
 unfoldable pub noneApplies : List Row → Bool
 noneApplies rs = every (λ r. not (r .applies)) rs
+
+-- a call's number: the lowest of its rows that applies, in the order in which it asks them; 0 exactly if none does; and else one of its own numbers
+pub record Numbered (n : ℕ) (rs : List Row) : Type 0 where
+  pub lowest : n ≡ lowestIn rs
+  pub zero-exactly : (n ≡ 0) ↔ (noneApplies rs ≡ true)
+  pub own : (n ≡ 0 → ⊥) → In n (map (λ (r : Row). r .number) rs)
 
 -- ---- what the numbers ask of a message
 
@@ -51,99 +55,134 @@ abbrev pub rootIs : List ℕ → One → Bool
 rootIs s (one g kids e) = rootOk s (g .from + 1) (g .name)
 rootIs s none = true
 
--- what is read in its alert
-abbrev pub alertIn : List ℕ → One → Alert
-alertIn s (one g kids e) = alertOf s (prefixOf s (g .from + 1) (g .name)) kids
-alertIn s none = fresh (length s) .alert
+-- sender and identifier: 1 to 64 bytes, 33 to 126, without comma, `<`, `&`
+abbrev pub isIdentity : List ℕ → Bool
+isIdentity v = every holds (between 1 64 (length v) ∷ every (λ b. between 33 126 b && not (oneOf (44 ∷ 60 ∷ 38 ∷ []) b)) v ∷ [])
 
-abbrev pub said : List ℕ → Message
-said s = judged s (alertIn s (docAt s))
+-- 1 to 16 groups `sender,identifier,sent` parted by space
+abbrev pub areGroups : List ℕ → Bool
+areGroups v =
+    every holds (
+    between 1 16 (length (words v))
+    ∷ every (λ w. every holds (isIdentity (senderOf w) ∷ isIdentity (identifierOf w) ∷ isTime (timeOf (sentOf w)) ∷ [])) (words v)
+    ∷ []
+    )
 
--- 4 message length; 5 not of the subset; 6 root; 7 a read leaf at fault; 8 status not Actual, or scope not Public; 9 msgType Ack or Error;
--- 10 references missing, malformed or over 16
-abbrev pub alertRows : List ℕ → Alert → List Row
-alertRows s a =
-    record { number = 7; applies = not (eqb (judged s a .field) 0) }
-    ∷ record { number = 8; applies = not (eqb (statusOf s a) 1 && eqb (scopeOf s a) 1) }
-    ∷ record { number = 9; applies = not (leb (judged s a .kind) 3) }
-    ∷ record { number = 10; applies = asksReferences (judged s a .kind) && not (referenced s (leafAt 6 a)) }
+-- the fields at fault: 1 identifier, 2 sender, 3 sent, 4 status, 5 msgType, 6 scope, each exactly once, not empty, its value one that it may have; 7 any other
+-- read leaf
+abbrev pub fieldRows : List ℕ → List Row
+fieldRows s =
+    row 1 (not (once s (prefix s) "identifier" (alert s) && isIdentity (identifier s)))
+    ∷ row 2 (not (once s (prefix s) "sender" (alert s) && isIdentity (sender s)))
+    ∷ row 3 (not (once s (prefix s) "sent" (alert s) && isTime (timeOf (sent s))))
+    ∷ row 4 (not (once s (prefix s) "status" (alert s) && isOne ("Actual" ∷ "Exercise" ∷ "System" ∷ "Test" ∷ "Draft" ∷ []) (status s)))
+    ∷ row 5 (not (once s (prefix s) "msgType" (alert s) && isOne ("Alert" ∷ "Update" ∷ "Cancel" ∷ "Ack" ∷ "Error" ∷ []) (msgType s)))
+    ∷ row 6 (not (once s (prefix s) "scope" (alert s) && isOne ("Public" ∷ "Restricted" ∷ "Private" ∷ []) (scope s)))
+    ∷ row 7 (not (languagesSound s (prefix s) (alert s) && infoSound s (prefix s) (info s)))
     ∷ []
 
-abbrev pub rootRows : List ℕ → One → List Row
-rootRows s o =
-    record { number = 5; applies = not (isRead o) }
-    ∷ record { number = 6; applies = not (rootIs s o) }
-    ∷ alertRows s (alertIn s o)
+-- 7 also returns its field, the lowest of 1 to 6 at fault, else 7; beside any other number the field is 0
+abbrev pub fieldBeside : ℕ → List ℕ → ℕ
+fieldBeside n s = pick (eqb n 7) (lowestIn (fieldRows s)) 0
 
+-- 4 message length; 5 not of the subset; 6 root; 7 a read leaf at fault; 8 status not Actual, or scope not Public; 9 msgType Ack or Error;
+-- 10 references missing, malformed or over 16, asked of Update and Cancel
 abbrev pub messageRows : List ℕ → List Row
-messageRows s = record { number = 4; applies = not (between 1 32768 (length s)) } ∷ rootRows s (docAt s)
+messageRows s =
+    row 4 (not (between 1 32768 (length s)))
+    ∷ row 5 (not (isRead (docAt s)))
+    ∷ row 6 (not (rootIs s (docAt s)))
+    ∷ row 7 (not (noneApplies (fieldRows s)))
+    ∷ row 8 (not (is "Actual" (status s) && is "Public" (scope s)))
+    ∷ row 9 (isOne ("Ack" ∷ "Error" ∷ []) (msgType s))
+    ∷ row 10 (isOne ("Update" ∷ "Cancel" ∷ []) (msgType s) && not (once s (prefix s) "references" (alert s) && areGroups (references s)))
+    ∷ []
+
+-- three letters A to Z
+abbrev pub isEvent : List ℕ → Bool
+isEvent v = every holds (eqb (length v) 3 ∷ every isCapital v ∷ [])
 
 -- a quiet Cancel isn't asked 11 to 14: 11 SAME event absent, twice or malformed; 12 originator; 13 SAME location absent or malformed;
 -- 14 expires absent, malformed or not after sent
-abbrev pub headerRows : List ℕ → Message → List Row
-headerRows s m =
-    record { number = 11; applies = not (quietOf m) && not (eventIs s (infoIn m .events .same)) }
-    ∷ record { number = 12; applies = not (quietOf m) && not (isKnown (originOf s (infoIn m .parameters .originator))) }
-    ∷ record { number = 13; applies = not (quietOf m) && not (located (infoIn m .locations)) }
-    ∷ record { number = 14; applies = not (quietOf m) && eqb (lasting s m) 0 }
+abbrev pub headerRows : List ℕ → List Row
+headerRows s =
+    row 11 (not (isQuiet s) && not (eqb (length (events s)) 1 && isEvent (firstOf (events s))))
+    ∷ row 12 (not (isQuiet s) && not (isOne ("PEP" ∷ "EAS" ∷ "WXR" ∷ "CIV" ∷ []) (originator s)))
+    ∷ row 13 (not (isQuiet s) && not (not (isNone (locations s)) && every isSix (locations s)))
+    ∷ row 14 (not (isQuiet s) && not (isTime (timeOf (expires s)) && ltb (sentSeconds s) (expiresSeconds s)))
     ∷ []
 
+-- 4 to 14
+abbrev pub takenRows : List ℕ → List Row
+takenRows s = messageRows s ++ headerRows s
+
 -- ---- conversion asks 2 to 14
+
+-- LLLLLLLL: exactly 8 bytes, 32 to 126, not `-` or `+`
+abbrev pub isStation : List ℕ → Bool
+isStation t = every holds (eqb (length t) 8 ∷ every (λ b. every holds (between 32 126 b ∷ not (eqb b 45) ∷ not (eqb b 43) ∷ [])) t ∷ [])
 
 -- 2 lent output short: header 252, text 1,800, uri 1,024; 3 station
 abbrev pub conversionRows : List ℕ → List ℕ → ℕ → ℕ → ℕ → List Row
 conversionRows s station header text uri =
-    record { number = 2; applies = not (roomy header text uri) }
-    ∷ record { number = 3; applies = not (stationOk station) }
-    ∷ (messageRows s ++ headerRows s (said s))
+    row 2 (not (every holds (leb 252 header ∷ leb 1800 text ∷ leb 1024 uri ∷ [])))
+    ∷ row 3 (not (isStation station))
+    ∷ takenRows s
 
--- ---- an offer to a board b asks 1 and 4 to 15
+-- ---- an offer to a board asks 1 and 4 to 15
+
+-- a board holds 1 to 170 records of 384 bytes; the filled ones first, strictly ascending by bytes, each keeping its own rules; the rest all zero
+abbrev pub isBoard : List ℕ → Bool
+isBoard b =
+    every holds (
+    between 1 170 (length b / 384)
+    ∷ eqb (length b % 384) 0
+    ∷ ascending (boardOf b)
+    ∷ every recordOk (boardOf b)
+    ∷ zeros (drop (length (boardOf b) * 384) b)
+    ∷ []
+    )
+
+-- how many records are empty
+abbrev pub emptiesIn : List ℕ → ℕ
+emptiesIn b = length b / 384 - length (boardOf b)
 
 -- 1 board length or content breaks the rules; 15 fewer empty records than must be added
 abbrev pub offerRows : List ℕ → List ℕ → List Row
 offerRows b s =
-    record { number = 1; applies = not (boardOk b) }
-    ∷ ((messageRows s ++ headerRows s (said s))
-    ++ (record { number = 15; applies = not (leb (length (insertAll (recordsOf s) (boardOf b)) * 384) (length b)) } ∷ []))
+    row 1 (not (isBoard b))
+    ∷ (takenRows s
+    ++ (row 15 (ltb (emptiesIn b) (length (newTo (boardOf b) (messageRecords s)))) ∷ []))
 
--- ---- a hand-out of a board b asks 1, 16, 15 in that order
-
-abbrev pub isNone : List (List ℕ) → Bool
-isNone [] = true
-isNone (h ∷ hs) = false
-
--- no empty record for the aired one of the first due header
-abbrev pub unaired : List ℕ → List (List ℕ) → Bool
-unaired b [] = false
-unaired b (h ∷ hs) = not (leb (length (insert (aired h) (boardOf b)) * 384) (length b))
+-- ---- a hand-out of a board asks 1, 16, 15 in that order
 
 -- 16 nothing due
 abbrev pub handOutRows : List ℕ → List Row
 handOutRows b =
-    record { number = 1; applies = not (boardOk b) }
-    ∷ record { number = 16; applies = isNone (due (boardOf b)) }
-    ∷ record { number = 15; applies = unaired b (due (boardOf b)) }
+    row 1 (not (isBoard b))
+    ∷ row 16 (isNone (dueHeaders (boardOf b)))
+    ∷ row 15 (ltb (emptiesIn b) 1)
     ∷ []
 
--- ---- the list of a board b, with m rows lent, asks 1, 2
+-- ---- the list of a board, with so many rows lent, asks 1, 2
 
 -- 2 rows below the due count
 abbrev pub listRows : List ℕ → ℕ → List Row
-listRows b m =
-    record { number = 1; applies = not (boardOk b) }
-    ∷ record { number = 2; applies = not (leb (length (rowsOf (boardOf b))) m) }
+listRows b rows =
+    row 1 (not (isBoard b))
+    ∷ row 2 (ltb rows (length (dueHeaders (boardOf b))))
     ∷ []
 
 -- ---- a header
 
 -- reading one asks 17: header unreadable
 abbrev pub readRows : List ℕ → List Row
-readRows s = record { number = 17; applies = not (headerForm s) } ∷ []
+readRows s = row 17 (not (headerForm s)) ∷ []
 
 -- writing one into an output of so many bytes asks 2, 3, 17: parts that no header has
 abbrev pub writeRows : ℕ → Parts → List Row
 writeRows room p =
-    record { number = 2; applies = not (leb 252 room) }
-    ∷ record { number = 3; applies = not (stationOk (p .station)) }
-    ∷ record { number = 17; applies = not (bodyOk (p .body)) }
+    row 2 (not (leb 252 room))
+    ∷ row 3 (not (isStation (p .station)))
+    ∷ row 17 (not (bodyOk (p .body)))
     ∷ []

@@ -3,4 +3,3 @@ pub mod Reals
 pub mod Places
 pub mod Unread
 pub mod Fits
-pub mod Codes

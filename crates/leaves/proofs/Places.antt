@@ -111,7 +111,7 @@ module _ (s : List ℕ) where
 
   -- ---- elements of a message
 
-  abbrev Reals : List Element → Type 0
+  abbrev pub Reals : List Element → Type 0
   Reals [] = Unit {0}
   Reals (e ∷ es) = Real s (e .tag) (e .holds) × AllReal s (e .holds) × Reals es
 
@@ -123,7 +123,7 @@ module _ (s : List ℕ) where
   fold-keeps P f k (e ∷ es) r x h = fold-keeps P f k es (r .2) (f x e) (k x e (r .0) (r .1) h)
 
 module _ (s p : List ℕ) where
-  named-real : (w : String) (t : Forest) → AllReal s t → Reals s (named s p w t)
+  pub named-real : (w : String) (t : Forest) → AllReal s t → Reals s (named s p w t)
   unfolding named
   named-real w nil r = tt
   named-real w (text i j rest) r = named-real w rest r

@@ -25,14 +25,14 @@ use Rattle.markup.proofs.Goes.{OneGoes, HeldGoes, items-goes, elem-goes}
 use Rattle.values.specs.Value.{runs, trimmed, collapsed, valueAt}
 use Rattle.values.proofs.Steps.{value-past}
 use Rattle.gather.specs.Visit.{placeOf}
-use Rattle.gather.specs.Read.{bare, placeIn}
+use Rattle.gather.specs.Read.{placeIn}
 use Rattle.leaves.specs.Leaf.{decoded, leafValue}
 use Rattle.leaves.proofs.Trees.{value-of-items}
 
--- an element whose place lies in the message, and whose value, if it holds no element, is that of what it holds
+-- an element whose place lies in the message, and whose value there is that of what it holds
 pub record Real (s : List ℕ) (g : Tag) (kids : Forest) : Type 0 where
   pub inside : placeIn s g ≤ length s
-  pub value : bare kids ≡ true → valueAt s (placeIn s g) ≡ leafValue s kids
+  pub value : valueAt s (placeIn s g) ≡ leafValue s kids
 
 abbrev pub AllReal : List ℕ → Forest → Type 0
 AllReal s nil = Unit {0}
@@ -125,8 +125,8 @@ real-at s d i a j k kids l e = go (eqb j k) refl
     go : (b : Bool) → eqb j k ≡ b → Real s (record { from = i; name = a; body = j; shut = k }) kids
     go true q =
         let z : kids ≡ nil = empty-held s d j kids (e ∙ ap (held kids) (sym (eqb-true j k q))) in
-        record { inside = rw q (omega arith); value = λ b. rw q (value-past s (length s) (omega arith) ∙ sym (ap (leafValue s) z ∙ none-said s)) }
-    go false q = record { inside = rw q l; value = λ b. rw q (value-of-items s (elemAt s d) (suc (length s)) j k kids e b) }
+        record { inside = rw q (omega arith); value = rw q (value-past s (length s) (omega arith) ∙ sym (ap (leafValue s) z ∙ none-said s)) }
+    go false q = record { inside = rw q l; value = rw q (value-of-items s (elemAt s d) (suc (length s)) j k kids e) }
 
 pub elem-real : (s : List ℕ) (d i : ℕ) → OneReal s (elemAt s d i)
 unfolding elemAt opened closed sealed placeOf
@@ -149,7 +149,7 @@ elem-real s (suc d) i = go (openAt s i) (open-goes s i) (items-real s (elemAt s 
     go (Empty a j) g w = (
       record {
         inside = rw (eq-eqb j j refl) (omega arith);
-        value = λ b. rw (eq-eqb j j refl) (value-past s (length s) (omega arith) ∙ sym (none-said s));
+        value = rw (eq-eqb j j refl) (value-past s (length s) (omega arith) ∙ sym (none-said s));
       },
       tt,
     )

@@ -1,1 +1,1 @@
-// Theorems over what is read in a message: a leaf's value is that of the tree, every place lies in the message, what is not read does not matter, what is answered fits, and its locations are the codes of the geocodes. No code.
+// Theorems over what is read in a message: a leaf's value is that of the tree, every place lies in the message, what is not read does not matter, and what is answered fits. No code.

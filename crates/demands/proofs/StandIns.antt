@@ -1,0 +1,129 @@
+-- None of document 01's five stand-ins meets the demand that it names for them: each is rejected at a message or a board that is computed.
+--     always-refuses-rejected         by the table, which has no number for the sample, and by the header that is not given
+--     one-header-rejected             by the headers of two messages
+--     writes-nothing-rejected, invented-count-rejected    by the count, which is the growth in filled records
+--     nothing-after-first-rejected    by hand-outs that give one of two due headers
+-- They are rejected for what they answer and not for how they are written: whatever answers as the library does meets the demands if the library does.
+--     alike, careful-meets
+use Prim.Native.Nat.{ℕ, _+_, min}
+use mathlib.Core.Path.{_≡_, refl, sym, ap, ap₂, _∙_, subst}
+use mathlib.Core.Bool.{Bool, true, false, true≢false}
+use mathlib.Core.List.{List, [], _∷_, append-nil}
+use native.Mathlib.Omega.{arith}
+use lib.Dec.{eqb}
+use lib.ListN.{length, take, getD}
+use lib.Seq.{take-length}
+use Rattle.octets.specs.Bytes.{pick}
+use Rattle.octets.specs.Text.{bytes}
+use Rattle.told.specs.Values.{isNone}
+use Rattle.convert.specs.Convert.{Given, nothing}
+use Rattle.board.specs.Rules.{boardOf}
+use Rattle.offers.specs.Offer.{Offering}
+use Rattle.demands.specs.Calls.{Calls, library}
+use Rattle.demands.specs.Message.{isQuiet, wholeOf}
+use Rattle.demands.specs.Numbers.{noneApplies, conversionRows}
+use Rattle.demands.specs.Demands.{Demand1, Demand2, Demand3, Demands}
+use Rattle.demands.specs.StandIns.{sample, other, bench, noneHeld, oneHeld, twoDue, headerOf}
+use Rattle.demands.specs.StandIns.{alwaysRefuses, oneHeader, writesNothing, inventedCount, nothingAfterFirst, SameAnswers, careful}
+use Rattle.demands.proofs.Samples.{sample-taken, sample-loud, sample-whole, other-taken, other-loud, other-header}
+use Rattle.demands.proofs.Samples.{first-offer, second-offer, none-filled, one-filled, two-keeps, two-empty, both-due, only-first}
+
+-- ---- converters
+
+sample-header : wholeOf sample bench .header ≡ bytes "ZCZC-CIV-CEM-024031+0045-0951800-BENCH/01-"
+sample-header = ap (λ (g : Given). g .header) sample-whole
+
+sample-some : isNone (wholeOf sample bench .header) ≡ false
+unfolding bytes
+sample-some = rw sample-header refl
+
+other-some : isNone (wholeOf other bench .header) ≡ false
+unfolding bytes
+other-some = rw other-header refl
+
+pub always-refuses-rejected : (number : ℕ) → (number ≡ 0 → ⊥) → (Demand1 (alwaysRefuses number) → ⊥) × (Demand2 (alwaysRefuses number) → ⊥)
+always-refuses-rejected number refuses = (
+  λ d. refuses (d .convert-numbered sample bench 252 1800 1024 .zero-exactly .1 sample-taken),
+  λ d. true≢false (ap (λ (g : Given). isNone (g .header)) (d .gives-all sample bench 252 1800 1024 sample-taken sample-loud) ∙ sample-some),
+)
+
+-- what is given in place of nothing, where the whole has a header, is the whole
+whole-given : (b : Bool) (g w : Given) → isNone (w .header) ≡ false → pick b nothing g ≡ w → g ≡ w
+whole-given true g w some e = absurd (true≢false (ap (λ (x : Given). isNone (x .header)) e ∙ some))
+whole-given false g w some e = e
+
+-- the one that is given for every message is then that of the message m
+one-is : (one : List ℕ → Given) → Demand2 (oneHeader one) → (m : List ℕ) →
+    noneApplies (conversionRows m bench 252 1800 1024) ≡ true → isQuiet m ≡ false → isNone (wholeOf m bench .header) ≡ false → one bench ≡ wholeOf m bench
+one-is one d m taken loud some =
+    whole-given (isNone (library .conversion m bench 252 1800 1024 .given .header)) (one bench) (wholeOf m bench) some
+    (d .gives-all m bench 252 1800 1024 taken loud)
+
+events-differ : bytes "ZCZC-CIV-CEM-024031+0045-0951800-BENCH/01-" ≡ bytes "ZCZC-CIV-TOR-024031+0045-0951800-BENCH/01-" → ⊥
+unfolding bytes
+events-differ e = let c : _≡_ {A = ℕ} 67 84 = ap (λ (h : List ℕ). getD h 9 0) e in omega (arith, c)
+
+pub one-header-rejected : (one : List ℕ → Given) → Demand2 (oneHeader one) → ⊥
+one-header-rejected one d =
+    let same : wholeOf sample bench ≡ wholeOf other bench =
+    sym (one-is one d sample sample-taken sample-loud sample-some) ∙ one-is one d other other-taken other-loud other-some in
+    events-differ (sym sample-header ∙ (ap (λ (w : Given). w .header) same ∙ other-header))
+
+-- ---- offers
+
+-- b, as it was, has grown by what an offer says
+abbrev Grows : List ℕ → Offering → Type 0
+Grows b o = length (boardOf b) ≡ length (boardOf b) + o .answer .added
+
+pub writes-nothing-rejected : Demand3 writesNothing → ⊥
+writes-nothing-rejected d =
+    let grows : length (boardOf noneHeld) ≡ length (boardOf noneHeld) + 1 = subst (Grows noneHeld) first-offer (d .added-is-growth noneHeld sample) in
+    omega (arith, grows)
+
+-- the bytes of an offer have grown by so many, where it answers 0
+abbrev GrowsBy : ℕ → List ℕ → Offering → Type 0
+GrowsBy count b o = length (boardOf (o .bytes)) ≡ length (boardOf b) + pick (eqb (o .answer .number) 0) count 0
+
+-- one message is offered twice, and the board grows once
+pub invented-count-rejected : (count : ℕ) → Demand3 (inventedCount count) → ⊥
+invented-count-rejected count d =
+    let first : length (boardOf oneHeld) ≡ length (boardOf noneHeld) + count = subst (GrowsBy count noneHeld) first-offer (d .added-is-growth noneHeld sample) in
+    let second : length (boardOf oneHeld) ≡ length (boardOf oneHeld) + count = subst (GrowsBy count oneHeld) second-offer (d .added-is-growth oneHeld sample) in
+    omega (arith, first, second, none-filled, one-filled)
+
+-- ---- hand-outs
+
+pub nothing-after-first-rejected : Demand3 nothingAfterFirst → ⊥
+nothing-after-first-rejected d =
+    let each : headerOf "CEM" ∷ [] ≡ take (min 2 2) (headerOf "CEM" ∷ (headerOf "TOR" ∷ [])) =
+    sym only-first ∙ (d .in-order twoDue two-keeps 2 ∙ ap₂ (λ (n : ℕ) (hs : List (List ℕ)). take (min 2 n) hs) two-empty both-due) in
+    let c : _≡_ {A = ℕ} 1 2 = ap length each in
+    omega (arith, c)
+
+-- ---- what answers as the library
+
+same-calls : (c : Calls) → SameAnswers c → c ≡ library
+same-calls c same = λ i. record {
+  conversion = λ s station h t u. same .conversion s station h t u i;
+  offering = λ b s. same .offering b s i;
+  handing = λ b. same .handing b i;
+  listing = λ b rows. same .listing b rows i;
+  reading = λ s. same .reading s i;
+  writing = λ d p. same .writing d p i;
+}
+
+pub alike : (c : Calls) → SameAnswers c → Demands library → Demands c
+alike c same d = subst Demands (sym (same-calls c same)) d
+
+careful-same : SameAnswers careful
+careful-same = record {
+  conversion = λ s station h t u. ap (λ (m : List ℕ). library .conversion m station h t u) (take-length s);
+  offering = λ b s. ap (library .offering b) (take-length s);
+  handing = λ b. refl;
+  listing = λ b rows. refl;
+  reading = λ s. ap (library .reading) (append-nil s);
+  writing = λ d p. refl;
+}
+
+pub careful-meets : Demands library → Demands careful
+careful-meets d = alike careful careful-same d

@@ -1,0 +1,90 @@
+-- The maintainer's three demands, each a statement over calls c.
+use Prim.Native.Nat.{ℕ, _+_, _≤_, min}
+use mathlib.Core.Path.{_≡_}
+use mathlib.Core.Logic.{_↔_}
+use mathlib.Core.Bool.{true, false}
+use mathlib.Core.List.{List, [], _∷_, _++_, map}
+use lib.ListN.{length, take, drop}
+use Rattle.parts.specs.Parts.{noBody, noStation}
+use Rattle.parts.specs.declared.Parts.{Parts}
+use Rattle.header.specs.declared.Read.{Read}
+use Rattle.header.specs.declared.Written.{Written}
+use Rattle.convert.specs.Convert.{nothing}
+use Rattle.records.specs.Record.{pad, aired}
+use Rattle.ledger.specs.Sorted.{In, Sorted, insert, insertAll}
+use Rattle.board.specs.Rules.{boardOf}
+use Rattle.told.specs.Values.{firstOf}
+use Rattle.demands.specs.Calls.{Calls, Writing}
+use Rattle.demands.specs.Message.{isQuiet, headerParts, wholeOf}
+use Rattle.demands.specs.Board.{ownHeader, messageRecords, dueHeaders, makesDue, indexOf, rowOf}
+use Rattle.demands.specs.Numbers.{Numbered, noneApplies, fieldBeside, conversionRows, isBoard, emptiesIn, offerRows, handOutRows, listRows, readRows, writeRows}
+use Rattle.demands.specs.Runs.{Empty, afterOffers, NoneFull, Takes, CarriedBy, handsFrom, Call, handedOut, Once}
+
+-- Bad input gets the refusal number that document 01 gives, no call is refused where none of its numbers applies, and a refused call changes no lent byte and no
+-- lent row: it returns its number, and beside 7 its field, zeros elsewhere, and writes nothing.
+pub record Demand1 (c : Calls) : Type 0 where
+  pub convert-numbered : (s station : List ℕ) (h t u : ℕ) → Numbered (c .conversion s station h t u .number) (conversionRows s station h t u)
+  pub convert-field : (s station : List ℕ) (h t u : ℕ) → c .conversion s station h t u .field ≡ fieldBeside (c .conversion s station h t u .number) s
+  pub convert-refused : (s station : List ℕ) (h t u : ℕ) → (c .conversion s station h t u .number ≡ 0 → ⊥) → c .conversion s station h t u .given ≡ nothing
+  pub offer-numbered : (b s : List ℕ) → Numbered (c .offering b s .answer .number) (offerRows b s)
+  pub offer-field : (b s : List ℕ) → c .offering b s .answer .field ≡ fieldBeside (c .offering b s .answer .number) s
+  pub offer-refused : (b s : List ℕ) → (c .offering b s .answer .number ≡ 0 → ⊥) → (c .offering b s .answer .added ≡ 0) × (c .offering b s .bytes ≡ b)
+  pub hand-out-numbered : (b : List ℕ) → Numbered (c .handing b .answer .number) (handOutRows b)
+  pub hand-out-refused : (b : List ℕ) → (c .handing b .answer .number ≡ 0 → ⊥) → (c .handing b .answer .index ≡ 0) × (c .handing b .bytes ≡ b)
+  pub list-numbered : (b : List ℕ) (rows : ℕ) → Numbered (c .listing b rows .answer .number) (listRows b rows)
+  pub list-refused : (b : List ℕ) (rows : ℕ) → (c .listing b rows .answer .number ≡ 0 → ⊥) → (c .listing b rows .answer .count ≡ 0) × (c .listing b rows .rows ≡ [])
+  pub read-numbered : (s : List ℕ) → Numbered (c .reading s .number) (readRows s)
+  pub read-refused : (s : List ℕ) → (c .reading s .number ≡ 0 → ⊥) → c .reading s .parts ≡ record { body = noBody; station = noStation }
+  pub write-numbered : (d : List ℕ) (p : Parts) → Numbered (c .writing d p .answer .number) (writeRows (length d) p)
+  pub write-refused : (d : List ℕ) (p : Parts) → (c .writing d p .answer .number ≡ 0 → ⊥) → (c .writing d p .answer .len ≡ 0) × (c .writing d p .bytes ≡ d)
+
+-- The header is the one that 47 CFR 11.31 and the ECIG guide give for the message, the alert text and audio choice are those of document 01, and the text never
+-- passes 1,800 characters. Reading a written header gives back its originator, event, locations in order, period, time and station; writing what was read from any
+-- accepted header gives the same bytes.
+pub record Demand2 (c : Calls) : Type 0 where
+  pub gives-all : (s station : List ℕ) (h t u : ℕ) → noneApplies (conversionRows s station h t u) ≡ true → isQuiet s ≡ false →
+      c .conversion s station h t u .given ≡ wholeOf s station
+  -- a quiet Cancel answers 0, with no header, text or audio
+  pub quiet-gives-nothing : (s station : List ℕ) (h t u : ℕ) → noneApplies (conversionRows s station h t u) ≡ true → isQuiet s ≡ true →
+      c .conversion s station h t u .given ≡ nothing
+  pub text-short : (s station : List ℕ) (h t u : ℕ) → length (c .conversion s station h t u .given .text) ≤ 1800
+  pub header-reads-back : (s station : List ℕ) (h t u : ℕ) → noneApplies (conversionRows s station h t u) ≡ true → isQuiet s ≡ false →
+      c .reading (c .conversion s station h t u .given .header) ≡ record { number = 0; parts = headerParts s station }
+  pub read-gives-back : (d : List ℕ) (p : Parts) → c .writing d p .answer .number ≡ 0 →
+      c .reading (take (c .writing d p .answer .len) (c .writing d p .bytes)) ≡ record { number = 0; parts = p }
+  pub write-gives-back : (s d : List ℕ) → c .reading s .number ≡ 0 → 252 ≤ length d →
+      c .writing d (c .reading s .parts) ≡ record { answer = record { number = 0; len = length s }; bytes = s ++ drop (length s) d }
+
+pub record Demand3 (c : Calls) : Type 0 where
+  -- a board that keeps the rules keeps them, and its length
+  pub offer-keeps : (b m : List ℕ) → isBoard b ≡ true → (isBoard (c .offering b m .bytes) ≡ true) × (length (c .offering b m .bytes) ≡ length b)
+  pub hand-out-keeps : (b : List ℕ) → isBoard b ≡ true → (isBoard (c .handing b .bytes) ≡ true) × (length (c .handing b .bytes) ≡ length b)
+  -- an offer adds the records of its message, and returns how many were added: the growth in filled records
+  pub offer-adds : (b m : List ℕ) → c .offering b m .answer .number ≡ 0 → boardOf (c .offering b m .bytes) ≡ insertAll (messageRecords m) (boardOf b)
+  pub added-is-growth : (b m : List ℕ) → length (boardOf (c .offering b m .bytes)) ≡ length (boardOf b) + c .offering b m .answer .added
+  -- a message is taken if its offer answers 0
+  pub taken-exactly : (b m : List ℕ) → isBoard b ≡ true → (c .offering b m .answer .number ≡ 15 → ⊥) → (c .offering b m .answer .number ≡ 0) ↔ Takes m
+  -- a hand-out adds the aired record of the first due header, and returns the index of the smallest notice that makes it due
+  pub hand-out-adds : (b : List ℕ) → c .handing b .answer .number ≡ 0 → boardOf (c .handing b .bytes) ≡ insert (aired (firstOf (dueHeaders (boardOf b)))) (boardOf b)
+  pub hand-out-index : (b : List ℕ) → c .handing b .answer .number ≡ 0 → c .handing b .answer .index ≡ indexOf (makesDue (boardOf b) (firstOf (dueHeaders (boardOf b)))) (boardOf b)
+  -- the list gives one row per due header, in header order, and returns their number
+  pub list-rows : (b : List ℕ) (rows : ℕ) → c .listing b rows .answer .number ≡ 0 →
+      (c .listing b rows .rows ≡ map (rowOf (boardOf b)) (dueHeaders (boardOf b))) × (c .listing b rows .answer .count ≡ length (dueHeaders (boardOf b)))
+  -- a header on a board is the conversion's without its station
+  pub on-board : (s station : List ℕ) (h t u : ℕ) → noneApplies (conversionRows s station h t u) ≡ true → isQuiet s ≡ false →
+      (front : List ℕ) × (ownHeader s ≡ pad 243 front) × (c .conversion s station h t u .given .header ≡ front ++ (station ++ (45 ∷ [])))
+  -- Offer the same alerts to two empty boards, each in its own order, each alert once or more, with no hand-out between and no offer refused for room. The filled
+  -- records are then equal byte by byte.
+  pub same-records : (b b′ : List ℕ) → Empty b → Empty b′ → (ms ms′ : List (List ℕ)) → ((m : List ℕ) → In m ms → In m ms′) → ((m : List ℕ) → In m ms′ → In m ms) →
+      NoneFull c ms b → NoneFull c ms′ b′ → boardOf (afterOffers c ms b) ≡ boardOf (afterOffers c ms′ b′)
+  -- A header is then due exactly if a taken message carried it whose sender, identifier and time no taken Update or Cancel names.
+  pub due-exactly : (b : List ℕ) → Empty b → (ms : List (List ℕ)) → NoneFull c ms b → (h : List ℕ) → In h (dueHeaders (boardOf (afterOffers c ms b))) ↔ CarriedBy ms h
+  -- Hand-outs, while there is room, then give each due header once, in byte order.
+  pub in-order : (b : List ℕ) → isBoard b ≡ true → (n : ℕ) → handsFrom c n b ≡ take (min n (emptiesIn b)) (dueHeaders (boardOf b))
+  -- Over any mixture of offers and hand-outs on a board that began empty, no header is handed out twice.
+  pub never-twice : (b : List ℕ) → Empty b → (cs : List Call) → Once (handedOut c cs b)
+
+pub record Demands (c : Calls) : Type 0 where
+  pub first : Demand1 c
+  pub second : Demand2 c
+  pub third : Demand3 c

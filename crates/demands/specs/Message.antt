@@ -1,0 +1,143 @@
+-- A message on its tree, and what a conversion gives for it: the header's parts one by one, text, audio and must-carry. s is the message.
+use Prim.Native.Nat.{ℕ, _+_, _-_, min}
+use mathlib.Core.Bool.{Bool, true, false, _&&_, _||_}
+use mathlib.Core.List.{List, [], _∷_, _++_, map}
+use lib.ListN.{length, take}
+use Rattle.octets.specs.Digits.{value}
+use Rattle.octets.specs.Text.{bytes}
+use Rattle.clock.specs.Time.{timeOf, instantIn}
+use Rattle.clock.specs.Period.{periodOf}
+use Rattle.clock.specs.Stamp.{stampOf}
+use Rattle.parts.specs.Originator.{originatorOf, known}
+use Rattle.parts.specs.Asked.{padded}
+use Rattle.parts.specs.declared.Body.{Body}
+use Rattle.parts.specs.declared.Parts.{Parts}
+use Rattle.header.specs.Header.{headerBytes}
+use Rattle.markup.specs.Tree.{Forest, nil, One, one, none}
+use Rattle.markup.specs.Document.{docAt}
+use Rattle.gather.specs.Read.{named}
+use Rattle.told.specs.Values.{isNone, firstOf, is, valueOf, valuesNamed, eventCodes, parameters, geocodes, selectedIn, audioIn}
+use Rattle.message.specs.Root.{prefixOf}
+use Rattle.sentence.specs.Words.{sentenceOf}
+use Rattle.wording.specs.Text.{textOf}
+use Rattle.convert.specs.Convert.{Given}
+
+-- ---- its alert and its selected info
+
+-- the root's prefix
+abbrev pub prefixIn : List ℕ → One → List ℕ
+prefixIn s (one g kids e) = prefixOf s (g .from + 1) (g .name)
+prefixIn s none = []
+
+-- what the root holds
+abbrev pub contentIn : One → Forest
+contentIn (one g kids e) = kids
+contentIn none = nil
+
+abbrev pub prefix : List ℕ → List ℕ
+prefix s = prefixIn s (docAt s)
+
+abbrev pub alert : List ℕ → Forest
+alert s = contentIn (docAt s)
+
+-- what the selected info holds
+abbrev pub info : List ℕ → Forest
+info s = selectedIn s (prefix s) (alert s)
+
+-- the values of their leaves
+abbrev pub identifier : List ℕ → List ℕ
+identifier s = valueOf s (prefix s) "identifier" (alert s)
+
+abbrev pub sender : List ℕ → List ℕ
+sender s = valueOf s (prefix s) "sender" (alert s)
+
+abbrev pub sent : List ℕ → List ℕ
+sent s = valueOf s (prefix s) "sent" (alert s)
+
+abbrev pub status : List ℕ → List ℕ
+status s = valueOf s (prefix s) "status" (alert s)
+
+abbrev pub msgType : List ℕ → List ℕ
+msgType s = valueOf s (prefix s) "msgType" (alert s)
+
+abbrev pub scope : List ℕ → List ℕ
+scope s = valueOf s (prefix s) "scope" (alert s)
+
+abbrev pub references : List ℕ → List ℕ
+references s = valueOf s (prefix s) "references" (alert s)
+
+abbrev pub expires : List ℕ → List ℕ
+expires s = valueOf s (prefix s) "expires" (info s)
+
+abbrev pub senderName : List ℕ → List ℕ
+senderName s = valueOf s (prefix s) "senderName" (info s)
+
+abbrev pub description : List ℕ → List ℕ
+description s = valueOf s (prefix s) "description" (info s)
+
+abbrev pub instruction : List ℕ → List ℕ
+instruction s = valueOf s (prefix s) "instruction" (info s)
+
+-- the values of its eventCodes with valueName SAME
+abbrev pub events : List ℕ → List (List ℕ)
+events s = valuesNamed "SAME" (eventCodes s (prefix s) (info s))
+
+-- of its geocodes named SAME, in message order, repeats kept
+abbrev pub locations : List ℕ → List (List ℕ)
+locations s = valuesNamed "SAME" (geocodes s (prefix s) (info s))
+
+-- ORG: first EAS-ORG parameter; absent means CIV
+abbrev pub originator : List ℕ → List ℕ
+originator s = firstOf (valuesNamed "EAS-ORG" (parameters s (prefix s) (info s)) ++ (bytes "CIV" ∷ []))
+
+-- a Cancel with no info, no SAME eventCode, no SAME geocode or no expires is quiet
+abbrev pub isQuiet : List ℕ → Bool
+isQuiet s =
+    is "Cancel" (msgType s)
+    && (isNone (named s (prefix s) "info" (alert s)) || (isNone (events s) || (isNone (locations s) || isNone (named s (prefix s) "expires" (info s)))))
+
+-- seconds since 2000 began in UTC
+abbrev pub sentSeconds : List ℕ → ℕ
+sentSeconds s = instantIn (timeOf (sent s))
+
+abbrev pub expiresSeconds : List ℕ → ℕ
+expiresSeconds s = instantIn (timeOf (expires s))
+
+-- ---- what it gives
+
+-- the originator, the one SAME event, the first 31 SAME locations in message order, the period of the seconds from sent to expires, day of year, hour and minute
+-- of sent in UTC
+unfoldable pub headerBody : List ℕ → Body
+headerBody s = record {
+  originator = known (originatorOf (originator s));
+  event = firstOf (events s);
+  count = min 31 (length (locations s));
+  locations = padded (map value (take 31 (locations s)));
+  period = periodOf (expiresSeconds s - sentSeconds s);
+  day = stampOf (sentSeconds s) .day;
+  hour = stampOf (sentSeconds s) .hour;
+  minute = stampOf (sentSeconds s) .minute;
+}
+
+-- and the caller's station
+abbrev pub headerParts : List ℕ → List ℕ → Parts
+headerParts s station = record { body = headerBody s; station = station }
+
+-- the sentence of these parts, with the first EASText, or senderName, description and instruction
+abbrev pub alertText : List ℕ → List ℕ
+alertText s =
+    textOf (sentenceOf (headerBody s)) (firstOf (valuesNamed "EASText" (parameters s (prefix s) (info s)))) (senderName s) (description s) (instruction s)
+
+-- must-carry: the first EAS-Must-Carry parameter is `True`
+abbrev pub mustCarry : List ℕ → Bool
+mustCarry s = is "True" (firstOf (valuesNamed "EAS-Must-Carry" (parameters s (prefix s) (info s))))
+
+-- all that a message gives that answers 0 and is not quiet
+unfoldable pub wholeOf : List ℕ → List ℕ → Given
+wholeOf s station = record {
+  header = headerBytes (headerParts s station);
+  text = alertText s;
+  audio = audioIn s (prefix s) (info s) .number;
+  uri = audioIn s (prefix s) (info s) .uri;
+  carry = mustCarry s;
+}

@@ -1,0 +1,149 @@
+-- Stand-ins for the library's calls. Document 01, "Holding a promise to its result", has five rejected: a converter that always refuses, or always gives one
+-- header; an offer that writes nothing, or returns an invented added count; a hand-out that gives the first header and ever after says nothing is due. Each is
+-- the library but for one call. The sixth answers as the library does and is written otherwise. Before them, the messages and boards on which they are tried.
+use Prim.Native.Nat.{ℕ}
+use Prim.Native.String.{String}
+use mathlib.Core.Path.{_≡_}
+use mathlib.Core.List.{List, [], _∷_, _++_}
+use lib.Dec.{eqb}
+use lib.ListN.{length, take, replicate}
+use Rattle.octets.specs.Bytes.{pick}
+use Rattle.octets.specs.Text.{bytes}
+use Rattle.parts.specs.declared.Parts.{Parts}
+use Rattle.told.specs.Values.{isNone}
+use Rattle.convert.specs.Convert.{Given, Outcome, nothing, refusedWith}
+use Rattle.records.specs.Record.{kind, pad, keyOf, notice}
+use Rattle.board.specs.Rules.{boardOf, encode}
+use Rattle.board.specs.Calls.{Handing, handRefused}
+use Rattle.offers.specs.Offer.{Offering}
+use Rattle.demands.specs.Calls.{Calls, library}
+use Rattle.demands.specs.Board.{some}
+
+-- ---- messages and boards
+
+-- the message under "Figures to hold", for this event
+abbrev pub messageOf : String → List ℕ
+messageOf event =
+    bytes "<alert xmlns=\"urn:oasis:names:tc:emergency:cap:1.2\"><identifier>B1</identifier><sender>b@c</sender><sent>2010-04-05T14:00:30-04:00</sent>"
+    ++ (bytes "<status>Actual</status><msgType>Alert</msgType><scope>Public</scope><info><eventCode><valueName>SAME</valueName><value>"
+    ++ (bytes event
+    ++ (bytes "</value></eventCode><expires>2010-04-05T14:45:30-04:00</expires><senderName>County Bench</senderName>"
+    ++ (bytes "<description>Water main broken.</description><instruction>Boil water.</instruction>"
+    ++ bytes "<area><geocode><valueName>SAME</valueName><value>024031</value></geocode></area></info></alert>"))))
+
+-- as it stands there
+abbrev pub sample : List ℕ
+sample = messageOf "CEM"
+
+-- and with another event
+abbrev pub other : List ℕ
+other = messageOf "TOR"
+
+-- the header of such a message on a board, and its notice: sent 323,805,630 seconds after 2000 began
+abbrev pub headerOf : String → List ℕ
+headerOf event = pad 243 (bytes "ZCZC-CIV-" ++ (bytes event ++ bytes "-024031+0045-0951800-"))
+
+abbrev pub noticeOf : String → List ℕ
+noticeOf event = notice (keyOf 323805630 (bytes "b@c") (bytes "B1")) (headerOf event)
+
+-- the station that the program uses
+abbrev pub bench : List ℕ
+bench = bytes "BENCH/01"
+
+-- a board of two records, both empty
+abbrev pub noneHeld : List ℕ
+noneHeld = replicate 768 0
+
+-- and with the sample's notice
+abbrev pub oneHeld : List ℕ
+oneHeld = encode 768 (noticeOf "CEM" ∷ [])
+
+-- a board of four records with the notices of both messages: two headers are due, and there is room to hand out both
+abbrev pub twoDue : List ℕ
+twoDue = encode 1536 (noticeOf "CEM" ∷ (noticeOf "TOR" ∷ []))
+
+-- ---- the five
+
+-- the library, but for its conversion
+abbrev pub converting : ((s station : List ℕ) (header text uri : ℕ) → Outcome) → Calls
+converting conversion = record {
+  conversion = conversion;
+  offering = library .offering;
+  handing = library .handing;
+  listing = library .listing;
+  reading = library .reading;
+  writing = library .writing;
+}
+
+-- but for its offers
+abbrev pub offeringBy : ((b s : List ℕ) → Offering) → Calls
+offeringBy offering = record {
+  conversion = library .conversion;
+  offering = offering;
+  handing = library .handing;
+  listing = library .listing;
+  reading = library .reading;
+  writing = library .writing;
+}
+
+-- but for its hand-outs
+abbrev pub handingBy : ((b : List ℕ) → Handing) → Calls
+handingBy handing = record {
+  conversion = library .conversion;
+  offering = library .offering;
+  handing = handing;
+  listing = library .listing;
+  reading = library .reading;
+  writing = library .writing;
+}
+
+-- every conversion is refused, with this number and zeros elsewhere
+abbrev pub alwaysRefuses : ℕ → Calls
+alwaysRefuses number = converting (λ s station h t u. refusedWith number)
+
+-- every message has its own number, and one that gives a header gives the same as any other, chosen by the station
+abbrev pub oneHeader : (List ℕ → Given) → Calls
+oneHeader one = converting (λ s station h t u.
+    let o = library .conversion s station h t u in record {
+      number = o .number;
+      field = o .field;
+      given = pick (isNone (o .given .header)) nothing (one station);
+    })
+
+-- the answer is the library's, and the bytes stay as they were
+abbrev pub writesNothing : Calls
+writesNothing = offeringBy (λ b s. record { answer = library .offering b s .answer; bytes = b })
+
+-- every offer that answers 0 says that it added so many records
+abbrev pub inventedCount : ℕ → Calls
+inventedCount count = offeringBy (λ b s.
+    let o = library .offering b s in record {
+      answer = record { number = o .answer .number; field = o .answer .field; added = pick (eqb (o .answer .number) 0) count 0 };
+      bytes = o .bytes;
+    })
+
+-- where an aired record stands on the board, nothing is due any more
+abbrev pub nothingAfterFirst : Calls
+nothingAfterFirst = handingBy (λ b. pick (some (λ r. eqb (kind r) 3) (boardOf b)) (handRefused 16 b) (library .handing b))
+
+-- ---- the sixth
+
+-- each call answers as the library's, whatever it is lent
+pub record SameAnswers (c : Calls) : Type 0 where
+  pub conversion : (s station : List ℕ) (h t u : ℕ) → c .conversion s station h t u ≡ library .conversion s station h t u
+  pub offering : (b s : List ℕ) → c .offering b s ≡ library .offering b s
+  pub handing : (b : List ℕ) → c .handing b ≡ library .handing b
+  pub listing : (b : List ℕ) (rows : ℕ) → c .listing b rows ≡ library .listing b rows
+  pub reading : (s : List ℕ) → c .reading s ≡ library .reading s
+  pub writing : (d : List ℕ) (p : Parts) → c .writing d p ≡ library .writing d p
+
+-- a message is copied before it is converted or offered, and nothing is put behind a header before it is read
+abbrev pub careful : Calls
+careful = record {
+  conversion = λ s station h t u. library .conversion (take (length s) s) station h t u;
+  offering = λ b s. library .offering b (take (length s) s);
+  handing = library .handing;
+  listing = library .listing;
+  reading = λ s. library .reading (s ++ []);
+  writing = library .writing;
+}
