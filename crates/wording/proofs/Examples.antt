@@ -44,3 +44,40 @@ alone = refl
 just-fits : partsOf 1790 (bytes "Main") (bytes "Stop") ≡ bytes " Main Stop"
 unfolding partsOf after roomOf sharesOf cut same bytes
 just-fits = refl
+
+-- a description alone gets 9 too, and a space before the mark stays
+alone-before : partsOf 1790 (bytes "Water main broken.") (bytes "") ≡ bytes " Water ***"
+unfolding partsOf after roomOf sharesOf cut same bytes
+alone-before = refl
+
+-- behind 1,789 characters A is 9 and h is 4, rounded down: h and A − h, also for a part that is one longer than h
+odd-cut : partsOf 1789 (bytes "Water main broken.") (bytes "Boil water.") ≡ bytes " W*** Bo***"
+unfolding partsOf after roomOf sharesOf cut same bytes
+odd-cut = refl
+
+odd-description : partsOf 1789 (bytes "Main.") (bytes "Boil water.") ≡ bytes " M*** Bo***"
+unfolding partsOf after roomOf sharesOf cut same bytes
+odd-description = refl
+
+-- if i is at most h, description gets A − i
+odd-instruction : partsOf 1789 (bytes "Water main broken.") (bytes "Boil") ≡ bytes " Wa*** Boil"
+unfolding partsOf after roomOf sharesOf cut same bytes
+odd-instruction = refl
+
+-- what fits A stays whole, and with one more it does not fit
+odd-fits : partsOf 1789 (bytes "Main") (bytes "Boil.") ≡ bytes " Main Boil."
+unfolding partsOf after roomOf sharesOf cut same bytes
+odd-fits = refl
+
+odd-over : partsOf 1789 (bytes "Main.") (bytes "Boil.") ≡ bytes " M*** Boil."
+unfolding partsOf after roomOf sharesOf cut same bytes
+odd-over = refl
+
+-- `Message from {first 200 characters of senderName}.`: of 201 the last is left out, and 200 stay whole
+long-sender : textOf (bytes "S.") [] (replicate 199 120 ++ bytes "yz") [] [] ≡ bytes "S. Message from " ++ replicate 199 120 ++ bytes "y."
+unfolding textOf after phrase roomOf sharesOf cut partsOf same bytes
+long-sender = refl
+
+full-sender : textOf (bytes "S.") [] (replicate 199 120 ++ bytes "y") [] [] ≡ bytes "S. Message from " ++ replicate 199 120 ++ bytes "y."
+unfolding textOf after phrase roomOf sharesOf cut partsOf same bytes
+full-sender = refl

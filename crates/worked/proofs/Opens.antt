@@ -1,0 +1,128 @@
+-- What whole messages are computed with. To unfold a name is to unfold all that its own line names, so that `unfolding converting` opens, crate by crate, every
+-- definition of which a message's numbers, what it gives and the program's lines are made.
+use Rattle.octets.specs.Bytes.{between, every, isCapital, isDigit, isLetter, isSpace, isVisible, oneOf, same}
+use Rattle.octets.specs.Digits.{digits, inRange, numOf, valueFrom}
+use Rattle.octets.specs.Scan.{scan}
+use Rattle.octets.specs.Text.{bytes}
+use Rattle.pieces.specs.Classes.{figureOf, isFigure, isNamed, isPlain, isStart, mayStand}
+use Rattle.pieces.specs.Pieces.{charAt, inNote, inText, nameAt, noteAt, noted, numberAt, numeralFrom, pieceAt, plainAt, refAt, referred, short, tagAt, wordedAt}
+use Rattle.pieces.specs.Walk.{stepped, walk}
+use Rattle.tags.specs.Attributes.{attrAt, attrNamed, bitAt, decodedAt, decodedFrom, equalled, over, seekAt, sought}
+use Rattle.tags.specs.Attributes as tags-attributes
+use Rattle.tags.specs.Tags.{closeAt, fresh, openAt, shutAt, tailAt, tailed, takeAt, taken}
+use Rattle.markup.specs.Document.{declarationAt, docAt, ended, inDeclaration, leadAt, led, miscAt, miscStep, rootAt, rooted}
+use Rattle.markup.specs.Document as markup-document
+use Rattle.markup.specs.Tree.{child, closed, elemAt, items, opened, put, sealed}
+use Rattle.markup.specs.Tree as markup-tree
+use Rattle.values.specs.Chars.{chars, charsTo, fold, met, nextAt, spelled, textAt}
+use Rattle.values.specs.Chars as values-chars
+use Rattle.values.specs.Value.{collapsed, runs, sixDigits, small, trimmed}
+use Rattle.values.specs.Value as values-value
+use Rattle.reads.specs.Leaves.{pairOk, soundOf}
+use Rattle.reads.specs.Names.{localAt}
+use Rattle.reads.specs.Steps.{audioOf, audioStep, english, eventStep, locationStep, parameterStep, placed}
+use Rattle.gather.specs.Read.{alertOf, bare, fromEnglish, infoOf, named, selected, selection}
+use Rattle.gather.specs.Visit.{placeOf}
+use Rattle.clock.specs.Calendar.{dayNumber, daysBefore, daysTo, divides, leap, monthDays, months, sum, yearDays}
+use Rattle.clock.specs.Period.{atMost, periodOf, up}
+use Rattle.clock.specs.Stamp.{begun, dayOf, stampOf, yearOf}
+use Rattle.clock.specs.Time.{isSign, signed, since2000, timeOf, utc, within}
+use Rattle.clock.specs.Written.{jjjhhmm, tttt}
+use Rattle.fields.specs.Fields.{identityOk, indexIn, isIdentity}
+use Rattle.fields.specs.References.{behind, groupOk, referencesOk, upTo, words}
+use Rattle.parts.specs.Originator.{originatorBytes, originatorOf}
+use Rattle.parts.specs.Parts.{eventOk, isPeriod, isStation, isZero, stationOk}
+use Rattle.header.specs.Body.{bodyBytes, bodyForm, headForm, lengthForm, locationsBytes, locationsForm, periodForm, timeForm, timesBytes}
+use Rattle.header.specs.Header.{headerBytes}
+use Rattle.message.specs.Judged.{identified, infoOk, numberWith, onlyOf, referenced, timed}
+use Rattle.message.specs.Judged as message-judged
+use Rattle.message.specs.Message.{judged, messageOf, ofRoot}
+use Rattle.message.specs.Message as message-message
+use Rattle.message.specs.Root.{beforeColon, colonAt, isNamespace, prefixOf, rootOk, rootWith, xmlnsOf}
+use Rattle.judgement.specs.Judged.{alerted, bodyWith, judgedBy}
+use Rattle.judgement.specs.Rules.{eventIs, located, originOf, quietOf, secondsTo, unplaced}
+use Rattle.sentence.specs.Words.{locationWord, orgWords, others, sentenceOf, whenWords, whoWords, wordsIn}
+use Rattle.sentence.specs.Words as sentence-words
+use Rattle.wording.specs.Text.{after, cut, partsOf, phrase, roomOf, sharesOf, textOf}
+use Rattle.convert.specs.Convert.{alertGiven, convertOf, outcomeOf, roomy, textIn, uriIn}
+use Rattle.report.specs.Lines.{alertLines, audioLine, audioWords, carryLine, decimal, line, linesOf, numberLine, orNone, valueLine}
+use Rattle.report.specs.Lines as report-lines
+use Rattle.report.specs.Program.{programOf}
+
+octets-opens : Unit {0}
+unfolding between every isCapital isDigit isLetter isSpace isVisible oneOf same digits inRange numOf valueFrom scan bytes
+octets-opens = tt
+
+clock-opens : Unit {0}
+unfolding dayNumber daysBefore daysTo divides leap monthDays months sum yearDays atMost periodOf up begun dayOf stampOf yearOf isSign signed since2000 timeOf
+    utc within jjjhhmm tttt
+clock-opens = tt
+
+parts-opens : Unit {0}
+unfolding originatorBytes originatorOf eventOk isPeriod isStation isZero stationOk
+parts-opens = tt
+
+header-opens : Unit {0}
+unfolding bodyBytes bodyForm headForm lengthForm locationsBytes locationsForm periodForm timeForm timesBytes headerBytes
+header-opens = tt
+
+pieces-opens : Unit {0}
+unfolding figureOf isFigure isNamed isPlain isStart mayStand charAt inNote inText nameAt noteAt noted numberAt numeralFrom pieceAt plainAt refAt referred short
+    tagAt wordedAt stepped walk
+pieces-opens = tt
+
+tags-opens : Unit {0}
+unfolding attrAt attrNamed bitAt decodedAt decodedFrom equalled over seekAt sought tags-attributes.joined tags-attributes.valueAt tags-attributes.valued closeAt
+    fresh openAt shutAt tailAt tailed takeAt taken
+tags-opens = tt
+
+markup-opens : Unit {0}
+unfolding declarationAt docAt ended inDeclaration leadAt led miscAt miscStep rootAt rooted markup-document.passed child closed elemAt items opened put sealed
+    markup-tree.turn
+markup-opens = tt
+
+values-opens : Unit {0}
+unfolding chars charsTo fold met nextAt spelled textAt values-chars.passed values-chars.turn collapsed runs sixDigits small trimmed values-value.spaced
+    values-value.valueAt
+values-opens = tt
+
+reads-opens : Unit {0}
+unfolding pairOk soundOf localAt audioOf audioStep english eventStep locationStep parameterStep placed
+reads-opens = tt
+
+gather-opens : Unit {0}
+unfolding alertOf bare fromEnglish infoOf named selected selection placeOf
+gather-opens = tt
+
+fields-opens : Unit {0}
+unfolding identityOk indexIn isIdentity behind groupOk referencesOk upTo words
+fields-opens = tt
+
+message-opens : Unit {0}
+unfolding identified infoOk numberWith onlyOf referenced timed message-judged.valued judged messageOf ofRoot message-message.passed beforeColon colonAt
+    isNamespace prefixOf rootOk rootWith xmlnsOf
+message-opens = tt
+
+judgement-opens : Unit {0}
+unfolding alerted bodyWith judgedBy eventIs located originOf quietOf secondsTo unplaced
+judgement-opens = tt
+
+sentence-opens : Unit {0}
+unfolding locationWord orgWords others sentenceOf whenWords whoWords wordsIn sentence-words.joined
+sentence-opens = tt
+
+wording-opens : Unit {0}
+unfolding after cut partsOf phrase roomOf sharesOf textOf
+wording-opens = tt
+
+convert-opens : Unit {0}
+unfolding alertGiven convertOf outcomeOf roomy textIn uriIn
+convert-opens = tt
+
+report-opens : Unit {0}
+unfolding alertLines audioLine audioWords carryLine decimal line linesOf numberLine orNone valueLine report-lines.spaced programOf
+report-opens = tt
+
+unfoldable pub converting : Unit {0}
+unfolding octets-opens clock-opens parts-opens header-opens pieces-opens tags-opens markup-opens values-opens reads-opens gather-opens fields-opens message-opens judgement-opens sentence-opens wording-opens convert-opens report-opens
+converting = tt

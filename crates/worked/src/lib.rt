@@ -1,0 +1,1 @@
+// Worked examples on whole messages. No code.
