@@ -17,6 +17,7 @@ pub mod OfferRuns
 pub mod Demand3
 pub mod Opens
 pub mod Samples
+pub mod Layouts
 pub mod StandIns
 pub mod Demands
 pub mod Arguments
