@@ -2,11 +2,18 @@
 //! `compare [--calls CALLS] [--least COUNT] CASES NAME=ANSWERS NAME=ANSWERS ..`
 //! CALLS, joined by commas, are the calls that must have been compared, each at least COUNT
 //! times. A comparison of nothing fails.
+//! With `--pairs unread` or `--pairs read` the cases come in pairs, by what differs in their
+//! messages, and COUNT pairs must have been compared in all.
+
+#[path = "compare/pairs.rs"]
+mod pairs;
 
 use std::collections::BTreeMap;
 use std::fs::File;
 use std::io::{BufRead, BufReader, Lines, Read};
 use std::process::ExitCode;
+
+use pairs::{compare_pairs, Differing};
 
 /// The calls, and the numbers that each can give.
 const CALLS: [(&str, &[u32]); 7] = [
@@ -25,6 +32,7 @@ const SHOWN_LENGTH: usize = 400;
 struct Arguments {
     calls: Vec<&'static str>,
     least: usize,
+    pairs: Option<Differing>,
     cases: String,
     answers: Vec<(String, String)>,
 }
@@ -33,12 +41,14 @@ impl Arguments {
     fn read(mut given: impl Iterator<Item = String>) -> Result<Arguments, String> {
         let mut calls = CALLS.iter().map(|(call, _)| *call).collect();
         let mut least = 1;
+        let mut pairs = None;
         let mut paths = Vec::new();
         while let Some(argument) = given.next() {
             let mut value = || given.next().ok_or(format!("A value is missing after {argument}."));
             match argument.as_str() {
                 "--calls" => calls = known_calls(&value()?)?,
                 "--least" => least = positive(&value()?)?,
+                "--pairs" => pairs = Some(Differing::named(&value()?)?),
                 _ => paths.push(argument),
             }
         }
@@ -47,7 +57,7 @@ impl Arguments {
         }
         let answers = paths.split_off(1);
         let answers = answers.iter().map(|named| name_and_path(named)).collect::<Result<_, _>>()?;
-        Ok(Arguments { calls, least, cases: paths.remove(0), answers })
+        Ok(Arguments { calls, least, pairs, cases: paths.remove(0), answers })
     }
 }
 
@@ -103,8 +113,8 @@ struct Tally {
 }
 
 impl Tally {
-    /// Compares the answers to one case.
-    fn compare(&mut self, case: &str, names: &[String], answers: &[String]) {
+    /// Compares the answers to one case; says whether they are equal.
+    fn compare(&mut self, case: &str, names: &[String], answers: &[String]) -> bool {
         if let Some(place) = answers.iter().position(|answer| *answer != answers[0]) {
             self.differences += 1;
             if self.differences <= SHOWN_DIFFERENCES {
@@ -112,15 +122,16 @@ impl Tally {
                 println!("  {} answers: {}", names[0], shown(&answers[0]));
                 println!("  {} answers: {}", names[place], shown(&answers[place]));
             }
-            return;
+            return false;
         }
-        let call = case.split(' ').next().unwrap_or("");
+        let call = call_of(case);
         match number(call, &answers[0]) {
             Some(number) => {
                 *self.numbers.entry(call.to_string()).or_default().entry(number).or_default() += 1;
             }
             None => self.others += 1,
         }
+        true
     }
 
     fn count(&self, call: &str, number: u32) -> usize {
@@ -167,6 +178,10 @@ impl Tally {
     }
 }
 
+fn call_of(case: &str) -> &str {
+    case.split(' ').next().unwrap_or("")
+}
+
 /// The number in an answer to a call.
 fn number(call: &str, answer: &str) -> Option<u32> {
     if !CALLS.iter().any(|(known, _)| *known == call) {
@@ -195,22 +210,40 @@ fn shown(line: &str) -> String {
     }
 }
 
-fn compare(mut cases: Source, mut sources: Vec<Source>) -> Result<Tally, String> {
-    let names: Vec<String> = sources.iter().map(|source| source.name.clone()).collect();
-    let mut tally = Tally::default();
-    let mut lines = 0;
-    while let Some(case) = cases.line()? {
-        lines += 1;
-        let short = |name: &str| format!("{name} has fewer answers than there are cases.");
-        let answer = |source: &mut Source| source.line()?.ok_or(short(&source.name));
-        let answers = sources.iter_mut().map(answer).collect::<Result<Vec<_>, _>>()?;
-        tally.compare(&case, &names, &answers);
-    }
-    for source in &mut sources {
+/// A case and its answers.
+struct Asked {
+    case: String,
+    answers: Vec<String>,
+}
+
+fn asked(cases: &mut Source, sources: &mut [Source]) -> Result<Option<Asked>, String> {
+    let Some(case) = cases.line()? else {
+        return Ok(None);
+    };
+    let short = |name: &str| format!("{name} has fewer answers than there are cases.");
+    let answer = |source: &mut Source| source.line()?.ok_or(short(&source.name));
+    let answers = sources.iter_mut().map(answer).collect::<Result<Vec<_>, _>>()?;
+    Ok(Some(Asked { case, answers }))
+}
+
+fn at_end(sources: &mut [Source]) -> Result<(), String> {
+    for source in sources {
         if source.line()?.is_some() {
             return Err(format!("{} has more answers than there are cases.", source.name));
         }
     }
+    Ok(())
+}
+
+fn compare(mut cases: Source, mut sources: Vec<Source>) -> Result<Tally, String> {
+    let names: Vec<String> = sources.iter().map(|source| source.name.clone()).collect();
+    let mut tally = Tally::default();
+    let mut lines = 0;
+    while let Some(Asked { case, answers }) = asked(&mut cases, &mut sources)? {
+        lines += 1;
+        tally.compare(&case, &names, &answers);
+    }
+    at_end(&mut sources)?;
     if lines == 0 {
         return Err("There are no cases: nothing was compared.".to_string());
     }
@@ -218,12 +251,23 @@ fn compare(mut cases: Source, mut sources: Vec<Source>) -> Result<Tally, String>
 }
 
 fn run() -> Result<(), String> {
-    let arguments = Arguments::read(std::env::args().skip(1))?;
-    let cases = Source::open("the cases", &arguments.cases)?;
-    let sources = arguments.answers.iter().map(|(name, path)| Source::open(name, path));
-    let tally = compare(cases, sources.collect::<Result<_, _>>()?)?;
-    tally.print(&arguments.calls);
-    let faults = tally.faults(&arguments.calls, arguments.least);
+    let Arguments { calls, least, pairs, cases, answers } =
+        Arguments::read(std::env::args().skip(1))?;
+    let cases = Source::open("the cases", &cases)?;
+    let sources = answers.iter().map(|(name, path)| Source::open(name, path));
+    let sources = sources.collect::<Result<_, _>>()?;
+    let faults = match pairs {
+        None => {
+            let tally = compare(cases, sources)?;
+            tally.print(&calls);
+            tally.faults(&calls, least)
+        }
+        Some(differing) => {
+            let pairs = compare_pairs(differing, cases, sources)?;
+            pairs.print(&calls);
+            pairs.faults(&calls, least)
+        }
+    };
     if faults.is_empty() {
         return Ok(());
     }
@@ -243,12 +287,13 @@ fn main() -> ExitCode {
 #[cfg(test)]
 mod tests {
     use super::*;
+    use std::io::Cursor;
 
-    fn lines(text: &'static str) -> Source {
-        Source::new("some", Box::new(text.as_bytes()))
+    pub fn lines(text: &str) -> Source {
+        Source::new("some", Box::new(Cursor::new(text.to_string())))
     }
 
-    fn faults(cases: &'static str, one: &'static str, two: &'static str) -> Vec<String> {
+    fn faults(cases: &str, one: &str, two: &str) -> Vec<String> {
         match compare(lines(cases), vec![lines(one), lines(two)]) {
             Ok(tally) => tally.faults(&["read"], 2),
             Err(sentence) => vec![sentence],

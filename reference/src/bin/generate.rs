@@ -1,4 +1,6 @@
-//! Makes case lines: `generate SEED COUNT [CALLS]`, with CALLS such as `read,write`.
+//! Makes case lines: `generate SEED COUNT [CALLS]`, with CALLS such as `read,write`; or pairs of
+//! them: `generate SEED COUNT CALLS unread`, or `read`, by what differs in their messages. Before
+//! each pair stands a line that is no case: `pair` and the kinds of difference.
 //! The same arguments make the same lines.
 
 #[path = "generate/boards.rs"]
@@ -13,12 +15,20 @@ mod headers;
 mod hex;
 #[path = "generate/messages.rs"]
 mod messages;
+#[path = "generate/pairs.rs"]
+mod pairs;
+#[path = "generate/read.rs"]
+mod read;
 #[path = "generate/render.rs"]
 mod render;
 #[path = "generate/sound.rs"]
 mod sound;
 #[path = "generate/times.rs"]
 mod times;
+#[path = "generate/tree.rs"]
+mod tree;
+#[path = "generate/unread.rs"]
+mod unread;
 #[path = "generate/wrong.rs"]
 mod wrong;
 
@@ -27,6 +37,7 @@ use std::process::ExitCode;
 
 use boards::Chain;
 use chance::Chance;
+use pairs::Differing;
 
 /// A change to a draft of a message.
 type Edit = fn(&mut draft::Draft, &mut Chance);
@@ -72,6 +83,16 @@ impl Generator {
             _ => messages::program_case(turn, chance),
         }
     }
+
+    /// A case, or a pair of what differs; none where it is too long, or no pair comes of it.
+    fn lines(&mut self, call: usize, differing: Option<Differing>) -> Option<Vec<String>> {
+        let case = self.case(call);
+        let lines = match differing {
+            None => vec![case],
+            Some(differing) => pairs::pair(&case, differing, &mut self.chance)?.to_vec(),
+        };
+        lines.iter().all(|line| line.len() <= LONGEST_LINE).then_some(lines)
+    }
 }
 
 /// The calls in the order of one round; None for a name that is no call.
@@ -86,14 +107,36 @@ fn round(names: Option<&str>) -> Option<Vec<usize>> {
     Some(chosen.map(|(_, call)| call).collect())
 }
 
-fn write_cases(seed: u64, count: usize, round: &[usize]) -> std::io::Result<()> {
-    let mut generator = Generator::new(seed);
+struct Arguments {
+    seed: u64,
+    count: usize,
+    round: Vec<usize>,
+    /// What differs in the messages of pairs; none for single cases.
+    differing: Option<Differing>,
+}
+
+impl Arguments {
+    fn read(given: &[String]) -> Option<Arguments> {
+        let (seed, count) = (given.first()?.parse().ok()?, given.get(1)?.parse().ok()?);
+        let round = round(given.get(2).map(String::as_str))?;
+        let differing = match given.get(3) {
+            Some(name) => Some(Differing::named(name)?),
+            None => None,
+        };
+        let takes_message = |call: &usize| pairs::CALLS.contains(&CALLS[*call].0);
+        let fits = differing.is_none() || round.iter().all(takes_message);
+        fits.then_some(Arguments { seed, count, round, differing })
+    }
+}
+
+fn write_cases(arguments: &Arguments) -> std::io::Result<()> {
+    let Arguments { seed, count, round, differing } = arguments;
+    let mut generator = Generator::new(*seed);
     let mut output = BufWriter::new(stdout().lock());
     let mut written = 0;
-    while written < count {
-        let line = generator.case(round[written % round.len()]);
-        if line.len() <= LONGEST_LINE {
-            writeln!(output, "{line}")?;
+    while written < *count {
+        if let Some(lines) = generator.lines(round[written % round.len()], *differing) {
+            writeln!(output, "{}", lines.join("\n"))?;
             written += 1;
         }
     }
@@ -101,15 +144,15 @@ fn write_cases(seed: u64, count: usize, round: &[usize]) -> std::io::Result<()> 
 }
 
 fn main() -> ExitCode {
-    let arguments: Vec<String> = std::env::args().skip(1).collect();
-    let seed = arguments.first().and_then(|text| text.parse().ok());
-    let count = arguments.get(1).and_then(|text| text.parse().ok());
-    let round = round(arguments.get(2).map(String::as_str));
-    let (Some(seed), Some(count), Some(round)) = (seed, count, round) else {
-        eprintln!("Give a seed, a count, and perhaps calls joined by commas.");
+    let given: Vec<String> = std::env::args().skip(1).collect();
+    let Some(arguments) = Arguments::read(&given) else {
+        eprintln!(
+            "Give a seed, a count, and perhaps calls joined by commas; for pairs of convert, \
+             offer and program then unread or read."
+        );
         return ExitCode::FAILURE;
     };
-    match write_cases(seed, count, &round) {
+    match write_cases(&arguments) {
         Ok(()) => ExitCode::SUCCESS,
         Err(error) => {
             eprintln!("The lines could not be written: {error}.");

@@ -13,7 +13,6 @@ pub fn to_hex(bytes: &[u8]) -> String {
     hex
 }
 
-#[allow(dead_code)]
 pub fn from_hex(hex: &[u8]) -> Option<Vec<u8>> {
     if hex == b"-" {
         return Some(Vec::new());

@@ -3,8 +3,7 @@
 use crate::chance::Chance;
 use crate::draft::Draft;
 use crate::hex::to_hex;
-use crate::messages::{refused_message, sound_message};
-use crate::render::render;
+use crate::messages::{refused_message, sound_message, written};
 use crate::times::{moment_text, time_text, END};
 use reference::{hand_out, list, offer, Row, MOST_RECORDS, RECORD};
 
@@ -66,7 +65,8 @@ fn offer_line(board: &[u8], message: &[u8]) -> String {
 /// Cancel that may come before it, one that withdraws itself.
 fn add_related(messages: &mut Vec<Vec<u8>>, chance: &mut Chance) {
     let first = Draft::alert(chance);
-    let mut add = |draft: &Draft, chance: &mut Chance| messages.push(render(draft, chance));
+    let mut add =
+        |draft: &Draft, chance: &mut Chance| messages.push(written(draft.clone(), chance));
     add(&first, chance);
     let zone = chance.pick(&[0, 60, -720, 899]);
     let mut same_header = first.clone();
@@ -101,7 +101,7 @@ fn many_new(count: usize, chance: &mut Chance) -> Vec<u8> {
     let group = |place: usize| format!("s,i{place},{}", time_text(place as i64 * 7, 0));
     let groups: Vec<String> = (0..count).map(group).collect();
     draft.refer("Update", &groups.join(" "));
-    render(&draft, chance)
+    written(draft, chance)
 }
 
 pub fn offer_case(turn: usize, chain: &mut Chain, chance: &mut Chance) -> String {

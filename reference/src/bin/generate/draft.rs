@@ -190,7 +190,7 @@ impl Draft {
 }
 
 /// A sound info.
-fn info(sent: i64, zone: i64, chance: &mut Chance) -> Element {
+pub fn info(sent: i64, zone: i64, chance: &mut Chance) -> Element {
     let mut info = Element::new("info");
     if chance.once_in(3) {
         info.add(Element::leaf("language", chance.pick(&["en-US", "EN-us", ""])));

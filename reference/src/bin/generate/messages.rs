@@ -5,7 +5,7 @@ use crate::draft::Draft;
 use crate::headers::{odd_station, station};
 use crate::hex::to_hex;
 use crate::render::render;
-use crate::sound::{cancel, SOUND};
+use crate::sound::{cancel, languages, SOUND};
 use crate::wrong::WRONG;
 
 fn sound_draft(most_edits: usize, chance: &mut Chance) -> Draft {
@@ -16,9 +16,17 @@ fn sound_draft(most_edits: usize, chance: &mut Chance) -> Draft {
     draft
 }
 
+/// Writes a draft out, one in five with other infos round its own.
+pub fn written(mut draft: Draft, chance: &mut Chance) -> Vec<u8> {
+    if chance.once_in(5) {
+        languages(&mut draft, chance);
+    }
+    render(&draft, chance)
+}
+
 /// A message that is most often taken.
 pub fn sound_message(chance: &mut Chance) -> Vec<u8> {
-    render(&sound_draft(2, chance), chance)
+    written(sound_draft(2, chance), chance)
 }
 
 /// A message with one thing wrong, each kind of wrong in its turn.
@@ -32,7 +40,7 @@ pub fn refused_message(turn: usize, chance: &mut Chance) -> Vec<u8> {
     if number == 4 && chance.once_in(3) {
         return Vec::new();
     }
-    render(&draft, chance)
+    written(draft, chance)
 }
 
 /// A message with two things wrong, of which the lower number decides; each pair of edits
@@ -44,7 +52,7 @@ fn twice_refused(turn: usize, chance: &mut Chance) -> Vec<u8> {
     for (_, edit) in [WRONG[first], WRONG[second]] {
         edit(&mut draft, chance);
     }
-    render(&draft, chance)
+    written(draft, chance)
 }
 
 /// A message with some of its bytes damaged.
@@ -85,16 +93,16 @@ fn damage(message: &mut Vec<u8>, chance: &mut Chance) {
 /// The message of a turn; half of them are most often taken.
 fn message(turn: usize, chance: &mut Chance) -> Vec<u8> {
     match turn % 20 {
-        0 => render(&sound_draft(0, chance), chance),
+        0 => written(sound_draft(0, chance), chance),
         1..=8 => {
             let mut draft = Draft::alert(chance);
             SOUND[turn / 20 * 8 % SOUND.len() + turn % 20 - 1](&mut draft, chance);
             if chance.once_in(2) {
                 SOUND[0](&mut draft, chance);
             }
-            render(&draft, chance)
+            written(draft, chance)
         }
-        9 => render(&sound_draft(4, chance), chance),
+        9 => written(sound_draft(4, chance), chance),
         10 | 17 => twice_refused(turn / 10, chance),
         11..=16 => refused_message(turn / 20 * 6 + turn % 20 - 11, chance),
         18 => damaged(chance),

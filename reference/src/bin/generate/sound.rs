@@ -1,7 +1,7 @@
 //! Edits that keep a draft sound, or most often do.
 
 use crate::chance::Chance;
-use crate::draft::{group, Draft, Element, Style, NAMESPACE};
+use crate::draft::{group, info, Draft, Element, Style, NAMESPACE};
 use crate::render::render;
 use crate::times::{time_text, END};
 use crate::Edit;
@@ -217,22 +217,19 @@ fn must_carry(draft: &mut Draft, chance: &mut Chance) {
     }
 }
 
-/// Other blocks round the selected one, with faults that do not count.
-fn languages(draft: &mut Draft, chance: &mut Chance) {
-    let others = ["es", "en", "en-GB", "fr-CA", "en-USA", "enxUS"];
+/// Other infos before and behind the draft's own, which is most often the one that is selected.
+pub fn languages(draft: &mut Draft, chance: &mut Chance) {
     let Some(info) = draft.info() else {
         return;
     };
     let alone = chance.once_in(4);
-    info.put("language", if alone { "es-US" } else { chance.pick(&["en-US", "", " eN-uS "]) });
+    if alone {
+        info.put("language", "es-US");
+    } else if chance.once_in(2) {
+        info.put("language", chance.pick(&["en-US", "", " eN-uS "]));
+    }
     for _ in 0..=chance.below(3) {
-        let mut other = Element::new("info");
-        other.add(Element::leaf("language", chance.pick(&others)));
-        for fault in ["<expires/><expires/>", "<eventCode/>", "<description><a/></description>"] {
-            if chance.once_in(2) {
-                other.add_raw(fault.as_bytes(), chance);
-            }
-        }
+        let other = foreign_info(draft, chance);
         if alone || chance.once_in(2) {
             draft.root.add(other);
         } else {
@@ -240,8 +237,32 @@ fn languages(draft: &mut Draft, chance: &mut Chance) {
         }
     }
     if chance.once_in(4) {
-        draft.root.add(Element::new("info"));
+        let english = another_info(draft, chance);
+        draft.root.add(english);
     }
+}
+
+/// An empty info, or a sound one.
+fn another_info(draft: &Draft, chance: &mut Chance) -> Element {
+    if chance.once_in(2) {
+        return Element::new("info");
+    }
+    info(draft.sent, draft.zone, chance)
+}
+
+/// An info in another language, with or without faults that do not count.
+fn foreign_info(draft: &Draft, chance: &mut Chance) -> Element {
+    let mut other = another_info(draft, chance);
+    other.put("language", chance.pick(&["es", "en", "en-GB", "fr-CA", "en-USA", "enxUS"]));
+    let mut holding = Element::new("description");
+    holding.add(Element::new("a"));
+    for fault in [Element::new("expires"), Element::new("eventCode"), holding] {
+        if chance.once_in(3) {
+            other.add(fault.clone());
+            other.add(fault);
+        }
+    }
+    other
 }
 
 /// References of 1 to 16 groups.

@@ -1,0 +1,315 @@
+//! Compares the answers to pairs of cases, whose messages differ in what is not read or in what
+//! is read. Before each pair stands a line that is no case: `pair` and the kinds of difference.
+
+use std::collections::BTreeMap;
+
+use crate::{asked, at_end, call_of, number, shown, Asked, Source, Tally, SHOWN_DIFFERENCES};
+
+/// The kinds of difference in what is not read, and in what is read; each must occur.
+#[rustfmt::skip]
+const UNREAD: [&str; 18] = [
+    "comment-put-in-before", "comment-changed-before", "comment-taken-out-before",
+    "comment-put-in-inside", "comment-changed-inside", "comment-taken-out-inside",
+    "comment-put-in-value", "comment-changed-value", "comment-taken-out-value",
+    "comment-put-in-behind", "comment-changed-behind", "comment-taken-out-behind",
+    "skipped-put-in", "skipped-taken-out", "skipped-inside", "skipped-attributes", "skipped-name",
+    "later-info",
+];
+#[rustfmt::skip]
+const READ: [&str; 8] = [
+    "value-changed", "element-put-into-leaf", "leaf-repeated", "leaf-taken-out",
+    "container-repeated", "container-taken-out", "later-language-changed", "later-info-taken-out",
+];
+
+/// What differs in the messages of a pair.
+#[derive(Clone, Copy)]
+pub enum Differing {
+    /// Both are to be answered alike.
+    Unread,
+    /// Most are to be answered otherwise.
+    Read,
+}
+
+impl Differing {
+    pub fn named(name: &str) -> Result<Differing, String> {
+        match name {
+            "unread" => Ok(Differing::Unread),
+            "read" => Ok(Differing::Read),
+            _ => Err(format!("Pairs differ in what is unread or read, not in {name}.")),
+        }
+    }
+
+    fn kinds(self) -> &'static [&'static str] {
+        match self {
+            Differing::Unread => &UNREAD,
+            Differing::Read => &READ,
+        }
+    }
+
+    /// The kinds that the line before a pair names.
+    fn kinds_in(self, line: &str) -> Result<Vec<&'static str>, String> {
+        let Some(names) = line.strip_prefix("pair ") else {
+            return Err(format!("This line names no kinds of difference: {}", shown(line)));
+        };
+        let known = |name: &str| self.kinds().iter().copied().find(|kind| *kind == name);
+        let kinds =
+            names.split(',').map(|name| known(name).ok_or(format!("There is no kind {name}.")));
+        kinds.collect()
+    }
+}
+
+/// How many pairs there were, how many were answered 0 alike, and how many otherwise.
+#[derive(Default)]
+struct Count {
+    pairs: usize,
+    zeros: usize,
+    otherwise: usize,
+}
+
+impl Count {
+    fn add(&mut self, zero: bool, otherwise: bool) {
+        self.pairs += 1;
+        self.zeros += usize::from(zero && !otherwise);
+        self.otherwise += usize::from(otherwise);
+    }
+
+    fn text(&self) -> String {
+        let Count { pairs, zeros, otherwise } = self;
+        let refused = pairs - zeros - otherwise;
+        format!(
+            "{pairs} pairs, answered 0: {zeros}, refused alike: {refused}, otherwise: {otherwise}"
+        )
+    }
+}
+
+pub struct Pairs {
+    differing: Differing,
+    all: Count,
+    by_kind: BTreeMap<&'static str, Count>,
+    /// Of pairs that are to be answered alike; of single cases where they are not.
+    tally: Tally,
+}
+
+impl Pairs {
+    fn new(differing: Differing) -> Pairs {
+        let kinds = differing.kinds().iter().map(|kind| (*kind, Count::default()));
+        let (all, by_kind) = (Count::default(), kinds.collect());
+        Pairs { differing, all, by_kind, tally: Tally::default() }
+    }
+
+    /// Compares the answers to two cases.
+    fn compare(&mut self, kinds: &[&str], names: &[String], first: Asked, second: Asked) {
+        let zero = number(call_of(&first.case), &first.answers[0]) == Some(0);
+        let otherwise = first.answers != second.answers;
+        self.all.add(zero, otherwise);
+        for (_, count) in self.by_kind.iter_mut().filter(|(kind, _)| kinds.contains(kind)) {
+            count.add(zero, otherwise);
+        }
+        match self.differing {
+            Differing::Unread => self.compare_as_one(names, first, second),
+            Differing::Read => {
+                self.tally.compare(&first.case, names, &first.answers);
+                self.tally.compare(&second.case, names, &second.answers);
+            }
+        }
+    }
+
+    /// Compares all answers to both cases as if they were answers to the first.
+    fn compare_as_one(&mut self, names: &[String], first: Asked, second: Asked) {
+        let to_second = names.iter().map(|name| format!("{name}, asked the second,"));
+        let names: Vec<String> = names.iter().cloned().chain(to_second).collect();
+        let answers = [first.answers, second.answers].concat();
+        let equal = self.tally.compare(&first.case, &names, &answers);
+        if !equal && self.tally.differences <= SHOWN_DIFFERENCES {
+            println!("  the second is: {}", shown(&second.case));
+        }
+    }
+
+    pub fn print(&self, calls: &[&str]) {
+        println!("{}", self.all.text());
+        for (kind, count) in &self.by_kind {
+            println!("  {kind}: {}", count.text());
+        }
+        self.tally.print(calls);
+    }
+
+    /// What is wrong with the comparison, in plain sentences.
+    pub fn faults(&self, calls: &[&str], least: usize) -> Vec<String> {
+        let mut faults = Vec::new();
+        if self.tally.differences > 0 {
+            faults.push(format!("{} answers differ.", self.tally.differences));
+        }
+        if self.tally.others > 0 {
+            faults.push(format!("{} lines are no case.", self.tally.others));
+        }
+        if self.all.pairs < least {
+            faults.push(format!("{} pairs were compared, not {least}.", self.all.pairs));
+        }
+        for call in calls.iter().filter(|call| self.tally.compared(call) == 0) {
+            faults.push(format!("{call} was never compared."));
+        }
+        match self.differing {
+            Differing::Unread => self.add_faults_of_unread(least, &mut faults),
+            Differing::Read => self.add_faults_of_read(&mut faults),
+        }
+        faults
+    }
+
+    fn add_faults_of_unread(&self, least: usize, faults: &mut Vec<String>) {
+        let zeros = self.all.zeros;
+        if zeros * 2 < least {
+            faults.push(format!("{zeros} pairs were answered 0, not half of {least}."));
+        }
+        for (kind, _) in self.by_kind.iter().filter(|(_, count)| count.zeros == 0) {
+            faults.push(format!("No pair that was answered 0 differs by {kind}."));
+        }
+    }
+
+    fn add_faults_of_read(&self, faults: &mut Vec<String>) {
+        let Count { pairs, otherwise, .. } = self.all;
+        if otherwise * 2 <= pairs {
+            faults.push(format!("Only {otherwise} of {pairs} pairs were answered otherwise."));
+        }
+        for (kind, _) in self.by_kind.iter().filter(|(_, count)| count.pairs == 0) {
+            faults.push(format!("No pair differs by {kind}."));
+        }
+    }
+}
+
+pub fn compare_pairs(
+    differing: Differing,
+    mut cases: Source,
+    mut sources: Vec<Source>,
+) -> Result<Pairs, String> {
+    let names: Vec<String> = sources.iter().map(|source| source.name.clone()).collect();
+    let mut pairs = Pairs::new(differing);
+    while let Some(line) = asked(&mut cases, &mut sources)? {
+        let kinds = differing.kinds_in(&line.case)?;
+        let cut_off = "The last pair is cut off.";
+        let mut next = || asked(&mut cases, &mut sources)?.ok_or(cut_off.to_string());
+        let (first, second) = (next()?, next()?);
+        if first.case == second.case || call_of(&first.case) != call_of(&second.case) {
+            return Err(format!("This case and the next are no pair: {}", shown(&first.case)));
+        }
+        pairs.compare(&kinds, &names, first, second);
+    }
+    at_end(&mut sources)?;
+    if pairs.all.pairs == 0 {
+        return Err("There are no pairs: nothing was compared.".to_string());
+    }
+    Ok(pairs)
+}
+
+#[cfg(test)]
+mod tests {
+    use super::*;
+    use crate::tests::lines;
+
+    /// Pairs of conversions that differ by every kind, compared by two that answer the same.
+    fn faults(differing: Differing, least: usize, answers: &[[&str; 2]]) -> Vec<String> {
+        let mut cases = String::new();
+        let mut answered = String::new();
+        for (place, [first, second]) in answers.iter().enumerate() {
+            let kinds = differing.kinds().join(",");
+            cases += &format!("pair {kinds}\nconvert {place}\nconvert {place}x\n");
+            answered += &format!("?\n{first}\n{second}\n");
+        }
+        faults_of(differing, least, &cases, &answered, &answered)
+    }
+
+    fn faults_of(
+        differing: Differing,
+        least: usize,
+        cases: &str,
+        one: &str,
+        two: &str,
+    ) -> Vec<String> {
+        match compare_pairs(differing, lines(cases), vec![lines(one), lines(two)]) {
+            Ok(pairs) => pairs.faults(&["convert"], least),
+            Err(sentence) => vec![sentence],
+        }
+    }
+
+    const ZERO: [&str; 2] = ["0 0 a", "0 0 a"];
+    const SEVEN: [&str; 2] = ["7 1 -", "7 1 -"];
+    const OTHERWISE: [&str; 2] = ["0 0 a", "0 0 b"];
+
+    #[test]
+    fn equal_pairs_pass() {
+        assert!(faults(Differing::Unread, 2, &[ZERO, SEVEN]).is_empty());
+    }
+
+    #[test]
+    fn an_unequal_pair_fails() {
+        let found = faults(Differing::Unread, 2, &[ZERO, ZERO, OTHERWISE]);
+        assert_eq!(found, ["1 answers differ."]);
+        let found = faults(Differing::Unread, 2, &[ZERO, ZERO, ["0 0 a", "7 1 -"]]);
+        assert_eq!(found, ["1 answers differ."]);
+    }
+
+    #[test]
+    fn a_pair_that_only_one_answers_unequally_fails() {
+        let cases = format!("pair {}\nconvert a\nconvert b\n", UNREAD.join(","));
+        let found = faults_of(Differing::Unread, 1, &cases, "?\n0 a\n0 a\n", "?\n0 a\n0 b\n");
+        assert_eq!(found[0], "1 answers differ.");
+        let cases = format!("pair {}\nconvert a\nconvert b\n", READ.join(","));
+        let found = faults_of(Differing::Read, 1, &cases, "?\n0 a\n0 b\n", "?\n0 a\n0 c\n");
+        assert_eq!(found, ["1 answers differ."]);
+    }
+
+    #[test]
+    fn too_few_pairs_fail() {
+        let found = faults(Differing::Unread, 3, &[ZERO, ZERO]);
+        assert_eq!(found, ["2 pairs were compared, not 3."]);
+        let found = faults(Differing::Read, 2, &[OTHERWISE]);
+        assert_eq!(found, ["1 pairs were compared, not 2."]);
+        assert_eq!(faults(Differing::Unread, 1, &[]).len(), 1);
+        assert_eq!(faults(Differing::Read, 1, &[]).len(), 1);
+    }
+
+    #[test]
+    fn too_few_pairs_answered_0_fail() {
+        let found = faults(Differing::Unread, 3, &[ZERO, SEVEN, SEVEN]);
+        assert_eq!(found, ["1 pairs were answered 0, not half of 3."]);
+    }
+
+    #[test]
+    fn a_control_that_is_mostly_equal_fails() {
+        let found = faults(Differing::Read, 2, &[ZERO, SEVEN]);
+        assert_eq!(found, ["Only 0 of 2 pairs were answered otherwise."]);
+        let found = faults(Differing::Read, 2, &[ZERO, OTHERWISE]);
+        assert_eq!(found, ["Only 1 of 2 pairs were answered otherwise."]);
+        assert!(faults(Differing::Read, 2, &[ZERO, OTHERWISE, OTHERWISE]).is_empty());
+    }
+
+    #[test]
+    fn a_kind_that_never_occurs_fails() {
+        let cases = format!("pair {}\nconvert a\nconvert b\n", UNREAD[1..].join(","));
+        let answers = "?\n0 a\n0 a\n";
+        let found = faults_of(Differing::Unread, 1, &cases, answers, answers);
+        assert_eq!(found, ["No pair that was answered 0 differs by comment-put-in-before."]);
+        let cases = cases.replace("later-info", "later-infos");
+        let found = faults_of(Differing::Unread, 1, &cases, answers, answers);
+        assert_eq!(found, ["There is no kind later-infos."]);
+    }
+
+    #[test]
+    fn cases_that_are_not_answered_fail() {
+        let found = faults(Differing::Unread, 1, &[ZERO, ["?", "?"]]);
+        assert_eq!(found, ["1 lines are no case."]);
+        let found = faults(Differing::Read, 1, &[OTHERWISE, OTHERWISE, ["?", "0 0 a"]]);
+        assert_eq!(found, ["1 lines are no case."]);
+    }
+
+    #[test]
+    fn what_is_no_pair_fails() {
+        let kinds = UNREAD.join(",");
+        let one_case = format!("pair {kinds}\nconvert a\nconvert a\n");
+        let two_calls = format!("pair {kinds}\nconvert a\nprogram b\n");
+        let cut_off = format!("pair {kinds}\nconvert a\n");
+        for cases in [&one_case, &two_calls, &cut_off, "convert a\nconvert b\n"] {
+            let answers = "0 a\n".repeat(cases.lines().count());
+            assert_eq!(faults_of(Differing::Unread, 1, cases, &answers, &answers).len(), 1);
+        }
+    }
+}
