@@ -1,0 +1,89 @@
+-- Nothing unread matters, over the calls as the functions' promises give them.
+--     nothing-unread-matters     the calls of the library that take a message
+--     same-program               the lines that the program prints
+--     same-activations           whatever is called after an offer, the same goes out
+use Prim.Native.Nat.{ℕ}
+use mathlib.Core.Path.{_≡_, ap}
+use mathlib.Core.List.{List, _∷_}
+use Rattle.octets.specs.Text.{bytes}
+use Rattle.reads.specs.declared.Audio.{Audio}
+use Rattle.judgement.specs.Judged.{judgedOf}
+use Rattle.judgement.specs.declared.Judged.{Judged}
+use Rattle.convert.specs.Convert.{textIn, uriIn, alertGiven, outcomeOf, convertOf}
+use Rattle.offers.specs.Records.{ownIn, headerIn, alertBy, recordsOf}
+use Rattle.offers.specs.Offer.{Offering, offerOf}
+use Rattle.report.specs.Program.{programOf}
+use Rattle.demands.specs.Calls.{Calls, library}
+use Rattle.demands.specs.Runs.{Call, offers, handedOut}
+use Rattle.unread.specs.Kept.{OnlyUnreadDiffers}
+use Rattle.unread.specs.Unread.{NothingUnreadMatters}
+use Rattle.unread.proofs.Alike.{AudioAs}
+use Rattle.unread.proofs.Judges.{JudgedAs, judged-as}
+
+module _ (s r : List ℕ) where
+  uri-as : (a b : Audio) → AudioAs s r a b → uriIn s a ≡ uriIn r b
+  unfolding uriIn
+  uri-as a b h = rw (h .number, h .uri)
+
+  module _ (j k : Judged) (h : JudgedAs s r j k) where
+    -- ---- conversion
+
+    text-as : textIn s j ≡ textIn r k
+    unfolding textIn
+    text-as =
+        let i = h .message .alert .info in
+        rw (h .body, i .parameters .text .value, i .senderName .value, i .description .value, i .instruction .value)
+
+    given-as : (station : List ℕ) → alertGiven s station j ≡ alertGiven r station k
+    unfolding alertGiven
+    given-as station =
+        let i = h .message .alert .info in
+        rw (text-as, uri-as _ _ (i .audio), i .audio .number, i .parameters .carry .value, h .body)
+
+    outcome-as : (station : List ℕ) → outcomeOf s station j ≡ outcomeOf r station k
+    unfolding outcomeOf
+    outcome-as station = rw (given-as station, h .number, h .field, h .quiet)
+
+    -- ---- records
+
+    own-as : ownIn s (j .message) ≡ ownIn r (k .message)
+    unfolding ownIn
+    own-as =
+        let a = h .message .alert in
+        rw (h .message .sent, a .sender .value, a .identifier .value)
+
+    header-as : headerIn j ≡ headerIn k
+    unfolding headerIn
+    header-as = rw (h .body)
+
+    left-as : alertBy s j ≡ alertBy r k
+    unfolding alertBy
+    left-as = rw (own-as, header-as, h .quiet, h .message .kind, h .message .alert .references .value)
+
+  module _ (d : OnlyUnreadDiffers s r) where
+    h : JudgedAs s r (judgedOf s) (judgedOf r)
+    h = judged-as s r d
+
+    same-conversion : (station : List ℕ) (header text uri : ℕ) → convertOf s station header text uri ≡ convertOf r station header text uri
+    unfolding convertOf
+    same-conversion station header text uri = rw (outcome-as (judgedOf s) (judgedOf r) h station)
+
+    same-records : recordsOf s ≡ recordsOf r
+    unfolding recordsOf
+    same-records = rw (left-as (judgedOf s) (judgedOf r) h, h .number)
+
+    same-offering : (board : List ℕ) → offerOf board s ≡ offerOf board r
+    unfolding offerOf
+    same-offering board = rw (same-records, h .number, h .field)
+
+    pub same-program : (room : ℕ) → programOf room s ≡ programOf room r
+    unfolding programOf
+    same-program room = rw (same-conversion (bytes "BENCH/01") 252 1800 1024)
+
+pub nothing-unread-matters : NothingUnreadMatters library
+nothing-unread-matters = record { conversion-same = same-conversion; offering-same = same-offering }
+
+-- whatever offers and hand-outs follow, the same headers are handed out
+pub same-activations : (c : Calls) → NothingUnreadMatters c → (s r : List ℕ) → OnlyUnreadDiffers s r → (b : List ℕ) (cs : List Call) →
+    handedOut c (offers s ∷ cs) b ≡ handedOut c (offers r ∷ cs) b
+same-activations c n s r d b cs = ap (λ (o : Offering). handedOut c cs (o .bytes)) (n .offering-same s r d b)

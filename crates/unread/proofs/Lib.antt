@@ -1,0 +1,9 @@
+pub mod Alike
+pub mod Keeps
+pub mod Alerts
+pub mod Messages
+pub mod Judges
+pub mod Calls
+pub mod Contracts
+pub mod Pairs
+pub mod Examples

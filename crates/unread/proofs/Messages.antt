@@ -1,0 +1,112 @@
+-- Two messages that differ only in what is unread are read alike, with the same number and field of 4 to 10.
+--     MessageAs, message-as
+use Prim.Native.Nat.{ℕ, _+_}
+use Prim.Native.String.{String}
+use mathlib.Core.Path.{_≡_, refl, ap}
+use mathlib.Core.Bool.{true, false≢true}
+use mathlib.Core.List.{List}
+use lib.ListN.{length}
+use Rattle.clock.specs.Time.{instantIn}
+use Rattle.markup.specs.Tree.{One, one, none}
+use Rattle.markup.specs.Document.{docAt}
+use Rattle.reads.specs.declared.Leaf as read-leaf
+use Rattle.reads.specs.declared.Info as read-info
+use Rattle.reads.specs.declared.Alert as read-alert
+use Rattle.message.specs.Root.{prefixOf, rootOk}
+use Rattle.message.specs.Judged.{leafAt, onlyOf, identified, timed, valued, statusOf, msgTypeOf, scopeOf, infoOk, fieldOf, referenced, numberWith, numberOf}
+use Rattle.message.specs.Message.{refusedAs, judged, passed, ofRoot, messageOf}
+use Rattle.message.specs.declared.Message.{Message}
+use Rattle.leaves.proofs.Reals.{leaf-is}
+use Rattle.demands.specs.Numbers.{isRead, rootIs}
+use Rattle.unread.specs.Kept.{keptOf, OnlyUnreadDiffers}
+use Rattle.unread.proofs.Alike.{both-ways, LeafAs, InfoAs, AlertAs, fresh-as, sound-as}
+use Rattle.unread.proofs.Alerts.{alert-as}
+
+module _ (s r : List ℕ) where
+  pub record MessageAs (m n : Message) : Type 0 where
+    pub number : m .number ≡ n .number
+    pub field : m .field ≡ n .field
+    pub kind : m .kind ≡ n .kind
+    pub sent : m .sent ≡ n .sent
+    pub alert : AlertAs s r (m .alert) (n .alert)
+
+  -- ---- leaves
+
+  only-as : (l m : read-leaf.Leaf) → LeafAs s r l m → onlyOf l ≡ onlyOf m
+  unfolding onlyOf
+  only-as l m h = rw (h .count, h .holds)
+
+  identified-as : (l m : read-leaf.Leaf) → LeafAs s r l m → identified s l ≡ identified r m
+  unfolding identified
+  identified-as l m h = rw (only-as l m h, h .value)
+
+  timed-as : (l m : read-leaf.Leaf) → LeafAs s r l m → timed s l ≡ timed r m
+  unfolding timed
+  timed-as l m h = rw (only-as l m h, h .value)
+
+  valued-as : (ws : List String) (l m : read-leaf.Leaf) → LeafAs s r l m → valued s ws l ≡ valued r ws m
+  unfolding valued
+  valued-as ws l m h = rw (only-as l m h, h .value)
+
+  pub referenced-as : (l m : read-leaf.Leaf) → LeafAs s r l m → referenced s l ≡ referenced r m
+  unfolding referenced
+  referenced-as l m h = rw (only-as l m h, h .value)
+
+  info-ok-as : (i j : read-info.Info) → InfoAs s r i j → infoOk i ≡ infoOk j
+  unfolding infoOk
+  info-ok-as i j h =
+      rw (
+        sound-as s r _ _ (h .expires),
+        sound-as s r _ _ (h .senderName),
+        sound-as s r _ _ (h .description),
+        sound-as s r _ _ (h .instruction),
+        h .events .fault,
+        h .parameters .fault,
+        h .locations,
+        h .audio .fault,
+      )
+
+  -- ---- an alert
+
+  module _ (a b : read-alert.Alert) (h : AlertAs s r a b) where
+    status-as : statusOf s a ≡ statusOf r b
+    status-as = valued-as _ _ _ (h .status)
+
+    kind-as : msgTypeOf s a ≡ msgTypeOf r b
+    kind-as = valued-as _ _ _ (h .msgType)
+
+    scope-as : scopeOf s a ≡ scopeOf r b
+    scope-as = valued-as _ _ _ (h .scope)
+
+    sent-as : timed s (leafAt 2 a) ≡ timed r (leafAt 2 b)
+    sent-as = timed-as _ _ (h .sent)
+
+    field-as : fieldOf s a ≡ fieldOf r b
+    field-as = rw (identified-as _ _ (h .identifier), identified-as _ _ (h .sender), sent-as, status-as, kind-as, scope-as, h .fault, info-ok-as _ _ (h .info))
+
+    number-as : numberOf s a ≡ numberOf r b
+    unfolding numberWith
+    number-as = rw (field-as, status-as, scope-as, kind-as, referenced-as _ _ (h .references))
+
+    judged-as : MessageAs (judged s a) (judged r b)
+    unfolding judged
+    judged-as = record { number = number-as; field = field-as; kind = kind-as; sent = ap instantIn sent-as; alert = h }
+
+  refused-as : (n : ℕ) → MessageAs (refusedAs (length s) n) (refusedAs (length r) n)
+  refused-as n = record { number = refl; field = refl; kind = refl; sent = refl; alert = fresh-as s r }
+
+-- ---- two messages
+
+pub message-as : (s r : List ℕ) → OnlyUnreadDiffers s r → MessageAs s r (messageOf s) (messageOf r)
+unfolding messageOf ofRoot passed keptOf
+message-as s r d = rw (d .length-s, d .length-r) (go (docAt s) (docAt r) refl refl (d .subset-s) (d .subset-r) (d .root) (d .kept))
+  where
+    go : (x y : One) → docAt s ≡ x → docAt r ≡ y → isRead x ≡ true → isRead y ≡ true → rootIs s x ≡ rootIs r y → keptOf s x ≡ keptOf r y →
+        MessageAs s r (ofRoot s x) (ofRoot r y)
+    go none y a b e f o k = absurd (false≢true e)
+    go (one g t i) none a b e f o k = absurd (false≢true f)
+    go (one g t i) (one h u j) a b e f o k =
+        both-ways (MessageAs s r) (rootOk s (g .from + 1) (g .name)) (rootOk r (h .from + 1) (h .name)) _ _ _ _ o
+        (judged-as s r _ _
+        (alert-as s (prefixOf s (g .from + 1) (g .name)) r (prefixOf r (h .from + 1) (h .name)) t u (leaf-is s g t i a) (leaf-is r h u j b) k))
+        (refused-as s r 6)
