@@ -1,7 +1,8 @@
-//! bench MESSAGES SEED: our conversion and the independent converter's, on the same generated messages, in one run. Every answer is compared: number, field,
-//! lengths, and every byte of the outputs. Nothing is said of times where two answers differ.
+//! bench MESSAGES SEED: our conversion and the independent converter's, on the same messages, in one run: so many generated ones, and the worst beside plain
+//! text. Every answer is compared: number, field, lengths, and every byte of the outputs. Nothing is said of times where two answers differ.
 
 mod messages;
+mod worst;
 
 use messages::{message, Numbers};
 use std::process::ExitCode;
@@ -23,6 +24,10 @@ extern "C" {
 }
 
 const STATION: &[u8; 8] = b"BENCH/01";
+
+/// Of the worst messages the median of so many conversions counts, and of as many more as end within this time.
+const ROUNDS: usize = 11;
+const WHILE: Duration = Duration::from_millis(500);
 
 /// How many messages are held at a time: each is converted by one and then by the other.
 const HELD: usize = 1_000;
@@ -46,10 +51,10 @@ impl Outputs {
     }
 }
 
-/// The number that ours answers.
-fn ours(message: &[u8], out: &mut Outputs) -> u8 {
+/// What ours answers, packed as include/stuiverhaag.h says.
+fn ours(message: &[u8], out: &mut Outputs) -> u64 {
     // SAFETY: each pointer is to as many bytes as its length says, and none of the slices overlap.
-    let answer = unsafe {
+    unsafe {
         stuiverhaag_convert(
             message.as_ptr(),
             message.len(),
@@ -62,29 +67,39 @@ fn ours(message: &[u8], out: &mut Outputs) -> u8 {
             out.uri.as_mut_ptr(),
             out.uri.len(),
         )
-    };
-    answer as u8
-}
-
-/// The number that the independent converter answers.
-fn theirs(message: &[u8], out: &mut Outputs) -> u8 {
-    match reference::convert(message, STATION, &mut out.header, &mut out.text, &mut out.uri) {
-        Ok(_) => 0,
-        Err(refusal) => refusal.number,
     }
 }
 
-fn timed(
-    messages: &[Vec<u8>],
-    out: &mut Outputs,
-    convert: fn(&[u8], &mut Outputs) -> u8,
-) -> Duration {
+/// What the independent converter answers, packed in the same way.
+fn theirs(message: &[u8], out: &mut Outputs) -> u64 {
+    match reference::convert(message, STATION, &mut out.header, &mut out.text, &mut out.uri) {
+        Ok(done) => {
+            (done.header as u64) << 16
+                | (done.audio as u64) << 24
+                | u64::from(done.carry) << 28
+                | (done.uri as u64) << 32
+                | (done.text as u64) << 48
+        }
+        Err(refusal) => u64::from(refusal.number) | u64::from(refusal.field) << 8,
+    }
+}
+
+type Convert = fn(&[u8], &mut Outputs) -> u64;
+
+fn timed(messages: &[Vec<u8>], out: &mut Outputs, convert: Convert) -> Duration {
     let began = Instant::now();
     for message in messages {
         out.clear();
         std::hint::black_box(convert(message, out));
     }
     began.elapsed()
+}
+
+/// The number that both answer to a message; none where their answers differ.
+fn alike(message: &[u8]) -> Option<u8> {
+    let (mut first, mut second) = (Outputs::new(), Outputs::new());
+    let (a, b) = (ours(message, &mut first), theirs(message, &mut second));
+    (a == b && first == second).then_some(a as u8)
 }
 
 #[derive(Default)]
@@ -96,18 +111,17 @@ struct Tally {
     theirs: Duration,
 }
 
-/// Compares the answers to each message; false where two differ.
-fn alike(messages: &[Vec<u8>], tally: &mut Tally) -> bool {
-    let (mut first, mut second) = (Outputs::new(), Outputs::new());
-    messages.iter().all(|message| {
-        first.clear();
-        second.clear();
-        let (a, b) = (ours(message, &mut first), theirs(message, &mut second));
-        tally.messages += 1;
-        tally.bytes += message.len();
-        tally.zeros += usize::from(a == 0);
-        a == b && first == second
-    })
+impl Tally {
+    /// Counts messages that are answered alike; says whether all are.
+    fn add(&mut self, messages: &[Vec<u8>]) -> bool {
+        messages.iter().all(|message| {
+            let number = alike(message);
+            self.messages += 1;
+            self.bytes += message.len();
+            self.zeros += usize::from(number == Some(0));
+            number.is_some()
+        })
+    }
 }
 
 fn print(tally: &Tally) {
@@ -126,6 +140,39 @@ fn print(tally: &Tally) {
     println!("ratio: {:.2}", tally.ours.as_secs_f64() / tally.theirs.as_secs_f64());
 }
 
+/// The median time of a conversion.
+fn median(message: &Vec<u8>, convert: Convert) -> Duration {
+    let mut out = Outputs::new();
+    let (mut times, mut all) = (Vec::new(), Duration::ZERO);
+    while times.len() < ROUNDS || all < WHILE {
+        let time = timed(std::slice::from_ref(message), &mut out, convert);
+        times.push(time);
+        all += time;
+    }
+    times.sort();
+    times[times.len() / 2]
+}
+
+/// Prints how many times as long as plain text of their length the worst messages take; says whether both answered 0 to each.
+fn print_worst() -> bool {
+    let (plain, worst) = (worst::plain(), worst::messages());
+    let all = worst.iter().map(|(_, message)| message).chain([&plain]);
+    if !all.map(|message| alike(message)).all(|number| number == Some(0)) {
+        return false;
+    }
+    let (ours_plain, theirs_plain) = (median(&plain, ours), median(&plain, theirs));
+    let ratio = |time: Duration, plain: Duration| time.as_secs_f64() / plain.as_secs_f64();
+    println!("messages of {} bytes, median times", plain.len());
+    println!("{:37}{:>11}{:>11}", "", "ours", "reference");
+    println!("{:37}{ours_plain:>11.1?}{theirs_plain:>11.1?}", "plain text");
+    for (name, message) in &worst {
+        let by_ours = ratio(median(message, ours), ours_plain);
+        let by_theirs = ratio(median(message, theirs), theirs_plain);
+        println!("{name:37}{by_ours:9.2} x{by_theirs:9.2} x");
+    }
+    true
+}
+
 fn main() -> ExitCode {
     let asked: Vec<u64> = std::env::args().skip(1).filter_map(|word| word.parse().ok()).collect();
     let [count, seed] = asked[..] else {
@@ -137,7 +184,7 @@ fn main() -> ExitCode {
     let mut out = Outputs::new();
     while (tally.messages as u64) < count {
         let held: Vec<Vec<u8>> = (0..HELD).map(|_| message(&mut numbers)).collect();
-        if !alike(&held, &mut tally) {
+        if !tally.add(&held) {
             eprintln!("An answer differs: nothing is measured.");
             return ExitCode::FAILURE;
         }
@@ -149,5 +196,9 @@ fn main() -> ExitCode {
         return ExitCode::FAILURE;
     }
     print(&tally);
+    if !print_worst() {
+        eprintln!("One of the worst messages is not answered 0 by both.");
+        return ExitCode::FAILURE;
+    }
     ExitCode::SUCCESS
 }

@@ -1,10 +1,9 @@
 //! Gathers from a message what is read in it.
 
-use crate::convert::Audio;
+use crate::audio::{Audio, URI};
 use crate::header::{is_event, is_originator, Locations};
 use crate::markup::{read_document, Attributes, Broken, Tag, Visitor};
 use crate::value::{Decoded, Value};
-use crate::URI;
 
 const NAMESPACE: &[u8] = b"urn:oasis:names:tc:emergency:cap:1.2";
 
@@ -259,7 +258,7 @@ impl<'a> Alert<'a> {
         }
         let uri = self.second.value();
         if (1..=URI).contains(&uri.take(URI + 1).count()) {
-            self.info.audio = audio_of(self.first.value());
+            self.info.audio = Audio::of(self.first.value());
             self.info.uri = uri;
         }
     }
@@ -366,16 +365,4 @@ fn root_prefix<'a>(tag: &Tag<'a>) -> Option<&'a [u8]> {
     Attributes { rest: tag.attributes }
         .any(|(name, value)| declares(name) && Decoded::of(value).is(NAMESPACE))
         .then_some(prefix)
-}
-
-fn audio_of(mime_type: Value) -> Audio {
-    if mime_type.is(b"audio/x-ipaws-audio-mp3") {
-        Audio::Mp3
-    } else if mime_type.is(b"audio/x-ipaws-audio-wav") {
-        Audio::Wav
-    } else if mime_type.is(b"audio/x-ipaws-streaming-audio-mp3") {
-        Audio::Stream
-    } else {
-        Audio::None
-    }
 }

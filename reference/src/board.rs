@@ -6,8 +6,8 @@ use crate::clock::{Moment, END};
 use crate::header::{put_front, read_front, FRONT};
 use crate::judge::{judge, Activation, Identity, Judged};
 use crate::octets::Output;
+use crate::refusal::Refusal;
 use crate::value::is_word_byte;
-use crate::Refusal;
 
 pub const RECORD: usize = 384;
 pub const MOST_RECORDS: usize = 170;

@@ -1,19 +1,12 @@
 //! The conversion.
 
-use crate::header::{is_station, put_header};
+use crate::audio::{Audio, URI};
+use crate::header::{is_station, put_header, HEADER};
 use crate::judge::judge;
 use crate::octets::Output;
-use crate::wording::put_text;
-use crate::{Refusal, HEADER, TEXT, URI};
-
-#[derive(Clone, Copy, Debug, Default, PartialEq, Eq)]
-pub enum Audio {
-    #[default]
-    None = 0,
-    Mp3 = 1,
-    Wav = 2,
-    Stream = 3,
-}
+use crate::refusal::Refusal;
+use crate::value::Value;
+use crate::wording::{put_text, TEXT};
 
 /// What was written: the lengths of header, uri and text, and the choices. All nothing
 /// for a quiet Cancel.
@@ -54,7 +47,7 @@ pub fn convert(
     })
 }
 
-fn put_uri(audio: Audio, value: crate::value::Value, uri: &mut [u8]) -> usize {
+fn put_uri(audio: Audio, value: Value, uri: &mut [u8]) -> usize {
     let mut uri = Output::on(uri);
     if audio != Audio::None {
         uri.put_each(value);

@@ -2,7 +2,10 @@
 
 use crate::clock::is_period;
 use crate::octets::{decimal, Output};
-use crate::{Refusal, HEADER};
+use crate::refusal::Refusal;
+
+/// The most bytes of a header, for which the lent output must have room.
+pub const HEADER: usize = 252;
 
 const STATION: usize = 8;
 const CODE: usize = 6;

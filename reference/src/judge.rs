@@ -3,8 +3,8 @@
 use crate::alert::{Alert, Info, Leaf};
 use crate::clock::{instant, period, Moment};
 use crate::header::Parts;
+use crate::refusal::Refusal;
 use crate::value::{Value, Word};
-use crate::Refusal;
 
 const LONGEST_MESSAGE: usize = 32_768;
 const MOST_REFERENCES: usize = 16;

@@ -1,7 +1,11 @@
 //! What the program prints for a message on its standard input.
 
+use crate::audio::{Audio, URI};
+use crate::convert::convert;
+use crate::header::HEADER;
 use crate::octets::Output;
-use crate::{convert, Audio, Refusal, HEADER, TEXT, URI};
+use crate::refusal::Refusal;
+use crate::wording::TEXT;
 
 /// Room for everything that the program can print.
 pub const LINES: usize = 64 + HEADER + TEXT + URI;

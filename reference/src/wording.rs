@@ -4,7 +4,9 @@ use crate::alert::Info;
 use crate::header::Parts;
 use crate::octets::Output;
 use crate::value::Value;
-use crate::TEXT;
+
+/// The most characters of a text, for which the lent output must have room.
+pub const TEXT: usize = 1800;
 
 const LONGEST_SENDER_NAME: usize = 200;
 const MARK: &[u8] = b"***";

@@ -39,9 +39,6 @@ use boards::Chain;
 use chance::Chance;
 use pairs::Differing;
 
-/// A change to a draft of a message.
-type Edit = fn(&mut draft::Draft, &mut Chance);
-
 const LONGEST_LINE: usize = 200_000;
 
 /// The calls, and how often each comes in its turn.

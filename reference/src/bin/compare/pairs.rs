@@ -3,9 +3,14 @@
 
 use std::collections::BTreeMap;
 
-use crate::{asked, at_end, call_of, number, shown, Asked, Source, Tally, SHOWN_DIFFERENCES};
+use crate::floors::number;
+use crate::sources::{asked, at_end, shown, Asked, Source};
+use crate::tally::{call_of, Tally, SHOWN_DIFFERENCES};
 
-/// The kinds of difference in what is not read, and in what is read; each must occur.
+/// How many of 1,000 pairs must be of each kind of difference.
+const FLOOR: usize = 8;
+
+/// The kinds of difference in what is not read, and in what is read.
 #[rustfmt::skip]
 const UNREAD: [&str; 18] = [
     "comment-put-in-before", "comment-changed-before", "comment-taken-out-before",
@@ -155,13 +160,21 @@ impl Pairs {
         faults
     }
 
+    /// How many pairs there must be of each kind of difference.
+    fn floor(&self) -> usize {
+        (self.all.pairs * FLOOR / 1000).max(1)
+    }
+
     fn add_faults_of_unread(&self, least: usize, faults: &mut Vec<String>) {
         let zeros = self.all.zeros;
         if zeros * 2 < least {
             faults.push(format!("{zeros} pairs were answered 0, not half of {least}."));
         }
-        for (kind, _) in self.by_kind.iter().filter(|(_, count)| count.zeros == 0) {
-            faults.push(format!("No pair that was answered 0 differs by {kind}."));
+        let least = self.floor();
+        for (kind, Count { zeros, .. }) in &self.by_kind {
+            if *zeros < least {
+                faults.push(format!("{zeros} pairs answered 0 differ by {kind}, not {least}."));
+            }
         }
     }
 
@@ -170,8 +183,11 @@ impl Pairs {
         if otherwise * 2 <= pairs {
             faults.push(format!("Only {otherwise} of {pairs} pairs were answered otherwise."));
         }
-        for (kind, _) in self.by_kind.iter().filter(|(_, count)| count.pairs == 0) {
-            faults.push(format!("No pair differs by {kind}."));
+        let least = self.floor();
+        for (kind, Count { pairs, .. }) in &self.by_kind {
+            if *pairs < least {
+                faults.push(format!("{pairs} pairs differ by {kind}, not {least}."));
+            }
         }
     }
 }
@@ -203,7 +219,7 @@ pub fn compare_pairs(
 #[cfg(test)]
 mod tests {
     use super::*;
-    use crate::tests::lines;
+    use crate::sources::tests::lines;
 
     /// Pairs of conversions that differ by every kind, compared by two that answer the same.
     fn faults(differing: Differing, least: usize, answers: &[[&str; 2]]) -> Vec<String> {
@@ -283,11 +299,11 @@ mod tests {
     }
 
     #[test]
-    fn a_kind_that_never_occurs_fails() {
+    fn too_few_pairs_of_a_kind_fail() {
         let cases = format!("pair {}\nconvert a\nconvert b\n", UNREAD[1..].join(","));
         let answers = "?\n0 a\n0 a\n";
         let found = faults_of(Differing::Unread, 1, &cases, answers, answers);
-        assert_eq!(found, ["No pair that was answered 0 differs by comment-put-in-before."]);
+        assert_eq!(found, ["0 pairs answered 0 differ by comment-put-in-before, not 1."]);
         let cases = cases.replace("later-info", "later-infos");
         let found = faults_of(Differing::Unread, 1, &cases, answers, answers);
         assert_eq!(found, ["There is no kind later-infos."]);

@@ -5,6 +5,9 @@ use crate::times::{time_text, END};
 
 pub const NAMESPACE: &str = "urn:oasis:names:tc:emergency:cap:1.2";
 
+/// A change to a draft of a message.
+pub type Edit = fn(&mut Draft, &mut Chance);
+
 #[derive(Clone)]
 pub enum Node {
     Element(Element),

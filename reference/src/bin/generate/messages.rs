@@ -96,7 +96,7 @@ fn message(turn: usize, chance: &mut Chance) -> Vec<u8> {
         0 => written(sound_draft(0, chance), chance),
         1..=8 => {
             let mut draft = Draft::alert(chance);
-            SOUND[turn / 20 * 8 % SOUND.len() + turn % 20 - 1](&mut draft, chance);
+            SOUND[(turn / 20 * 8 + turn % 20 - 1) % SOUND.len()](&mut draft, chance);
             if chance.once_in(2) {
                 SOUND[0](&mut draft, chance);
             }

@@ -1,16 +1,15 @@
 //! Edits that keep a draft sound, or most often do.
 
 use crate::chance::Chance;
-use crate::draft::{group, info, Draft, Element, Style, NAMESPACE};
+use crate::draft::{group, info, Draft, Edit, Element, Style, NAMESPACE};
 use crate::render::render;
 use crate::times::{time_text, END};
-use crate::Edit;
 
 #[rustfmt::skip]
-pub const SOUND: [Edit; 24] = [
+pub const SOUND: [Edit; 26] = [
     style, locations, parts, long_parts, long_parts, eas_text, sender_name, period, border_of_time,
-    resources, originator, must_carry, languages, update, cancel, quiet, shape, prefix, misplaced,
-    empty_pairs, long_words, references_of_alert, declaration, fill,
+    resources, resources, originator, must_carry, must_carry, languages, update, cancel, quiet,
+    shape, prefix, misplaced, empty_pairs, long_words, references_of_alert, declaration, fill,
 ];
 
 fn style(draft: &mut Draft, chance: &mut Chance) {
@@ -169,6 +168,10 @@ fn border_of_time(draft: &mut Draft, chance: &mut Chance) {
     draft.expire_after(chance.pick(&[1, 900, 2700, 3600]), zone);
 }
 
+/// The mimeTypes that count.
+const AUDIO: [&str; 3] =
+    ["audio/x-ipaws-audio-mp3", "audio/x-ipaws-audio-wav", "audio/x-ipaws-streaming-audio-mp3"];
+
 fn resources(draft: &mut Draft, chance: &mut Chance) {
     let Some(info) = draft.info() else {
         return;
@@ -176,15 +179,9 @@ fn resources(draft: &mut Draft, chance: &mut Chance) {
     for _ in 0..=chance.below(3) {
         let mut resource = Element::new("resource");
         resource.add(Element::leaf("resourceDesc", "x"));
-        let kind = chance.pick(&[
-            "audio/x-ipaws-audio-mp3",
-            "audio/x-ipaws-audio-wav",
-            "audio/x-ipaws-streaming-audio-mp3",
-            "audio/mpeg",
-            "Audio/x-ipaws-audio-mp3",
-            "audio/x-ipaws-audio-mp",
-            "",
-        ]);
+        let others = ["audio/mpeg", "Audio/x-ipaws-audio-mp3", "audio/x-ipaws-audio-mp", ""];
+        let kinds = if chance.once_in(2) { &AUDIO[..] } else { &others };
+        let kind = chance.pick(kinds);
         if !chance.once_in(8) {
             resource.add(Element::leaf("mimeType", kind));
         }
@@ -381,7 +378,7 @@ fn misplaced(draft: &mut Draft, chance: &mut Chance) {
     let mut resource = Element::new("resource");
     resource.add(Element::leaf("uri", "u"));
     resource.add(Element::leaf("valueName", "audio/x-ipaws-audio-mp3"));
-    resource.add(Element::leaf("mimeType", "audio/x-ipaws-audio-wav"));
+    resource.add(Element::leaf("mimeType", chance.pick(&AUDIO)));
     let places: [(&[&str], std::ops::Range<usize>); 5] = [
         (&[], 5..17),
         (&["info"], 0..5),

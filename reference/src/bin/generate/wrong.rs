@@ -1,10 +1,9 @@
 //! Edits that make a draft one that is refused, and the number that this is for.
 
 use crate::chance::Chance;
-use crate::draft::{Draft, Element, Node, NAMESPACE};
+use crate::draft::{Draft, Edit, Element, Node, NAMESPACE};
 use crate::sound::{groups, nested, time_at_the_end};
 use crate::times::{time_text, END};
-use crate::Edit;
 
 /// The edits, each with the number that it is most often answered by.
 pub const WRONG: [(u8, Edit); 26] = [
