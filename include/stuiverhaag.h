@@ -1,5 +1,6 @@
 /*
- * The calls of Stuiverhaag for a host in C. Link with libhost.a, which `rt staticlib host` makes.
+ * The calls of Stuiverhaag for a host in C or C++. Link with libstuiverhaag.a, which
+ * `rt staticlib stuiverhaag` makes and tools/install puts where a build finds it.
  *
  * A call takes numbers and lent slices, each a pointer and its length in bytes. It keeps no
  * pointer and no state, and uses no heap. The caller sees to three things:
@@ -11,29 +12,7 @@
  * Everything else is judged by the call: any bytes, any lengths, any numbers may be lent.
  *
  * A call returns one uint64_t, and the functions at the end of this file take its parts. The
- * first of them is a number:
- *
- *    0  done
- *    1  the board breaks its rules
- *    2  a lent output is shorter than STUIVERHAAG_HEADER, STUIVERHAAG_TEXT or STUIVERHAAG_URI
- *    3  the station is not 8 bytes of 32 to 126 without `-` and `+`
- *    4  the message has no byte, or more than 32,768
- *    5  the message is not of the subset of XML
- *    6  its root is not a CAP 1.2 alert
- *    7  an element that is read is at fault; the field says which: 1 identifier, 2 sender,
- *       3 sent, 4 status, 5 msgType, 6 scope, the first of them that is at fault, else 7
- *    8  the status is not Actual, or the scope is not Public
- *    9  the msgType is Ack or Error
- *   10  references are missing, malformed or more than 16
- *   11  the SAME event is absent, there twice, or malformed
- *   12  the originator is none of the four
- *   13  the SAME location is absent or malformed
- *   14  expires is absent, malformed or not after sent
- *   15  the board has fewer empty records than must be added
- *   16  nothing is due
- *   17  no header: unreadable bytes, or parts that no header has
- *
- * Where several apply, the lowest is returned, but 16 before 15. Any number but 0 is a refusal: no lent byte has
+ * first of them is a number of enum stuiverhaag_numbers. Any but 0 is a refusal: no lent byte has
  * changed, and every part but the number is 0, and after 7 the field. After 0 an output begins
  * with what was written, as long as the answer says, and its bytes behind that are as they were.
  */
@@ -43,18 +22,93 @@
 #include <stddef.h>
 #include <stdint.h>
 
-/* How long a record of a board is, and how many records a board has at most. */
-#define STUIVERHAAG_RECORD 384
-#define STUIVERHAAG_RECORDS 170
+#ifdef __cplusplus
+extern "C" {
+#endif
+
+/* Where several apply, the lowest is returned, but 16 before 15. */
+enum stuiverhaag_numbers {
+    STUIVERHAAG_DONE = 0,
+    /* the board breaks its rules */
+    STUIVERHAAG_BOARD_RULES = 1,
+    /* a lent output is shorter than STUIVERHAAG_HEADER_LENGTH, _TEXT_LENGTH or _URI_LENGTH */
+    STUIVERHAAG_OUTPUT_SHORT = 2,
+    /* the station is not STUIVERHAAG_STATION_LENGTH bytes of 32 to 126 without `-` and `+` */
+    STUIVERHAAG_STATION_BAD = 3,
+    /* the message has no byte, or more than STUIVERHAAG_MESSAGE_LONGEST */
+    STUIVERHAAG_MESSAGE_LENGTH_BAD = 4,
+    /* the message is not of the subset of XML */
+    STUIVERHAAG_XML_BAD = 5,
+    /* its root is not a CAP 1.2 alert */
+    STUIVERHAAG_ROOT_BAD = 6,
+    /* an element that is read is at fault; the field says which */
+    STUIVERHAAG_ELEMENT_BAD = 7,
+    /* the status is not Actual, or the scope is not Public */
+    STUIVERHAAG_NOT_ACTUAL_PUBLIC = 8,
+    /* the msgType is Ack or Error */
+    STUIVERHAAG_ACK_OR_ERROR = 9,
+    /* references are missing, malformed or more than 16 */
+    STUIVERHAAG_REFERENCES_BAD = 10,
+    /* the SAME event is absent, there twice, or malformed */
+    STUIVERHAAG_EVENT_BAD = 11,
+    /* the originator is none of the four */
+    STUIVERHAAG_ORIGINATOR_BAD = 12,
+    /* the SAME location is absent or malformed */
+    STUIVERHAAG_LOCATION_BAD = 13,
+    /* expires is absent, malformed or not after sent */
+    STUIVERHAAG_EXPIRES_BAD = 14,
+    /* the board has fewer empty records than must be added */
+    STUIVERHAAG_BOARD_FULL = 15,
+    STUIVERHAAG_NOTHING_DUE = 16,
+    /* unreadable bytes, or parts that no header has */
+    STUIVERHAAG_NO_HEADER = 17
+};
+
+/* The first of these that is at fault; the last of them is every other element that is read. */
+enum stuiverhaag_fields {
+    STUIVERHAAG_FIELD_IDENTIFIER = 1,
+    STUIVERHAAG_FIELD_SENDER = 2,
+    STUIVERHAAG_FIELD_SENT = 3,
+    STUIVERHAAG_FIELD_STATUS = 4,
+    STUIVERHAAG_FIELD_MSGTYPE = 5,
+    STUIVERHAAG_FIELD_SCOPE = 6,
+    STUIVERHAAG_FIELD_OTHER = 7
+};
+
+enum stuiverhaag_audios {
+    STUIVERHAAG_AUDIO_NONE = 0,
+    STUIVERHAAG_AUDIO_MP3 = 1,
+    STUIVERHAAG_AUDIO_WAV = 2,
+    STUIVERHAAG_AUDIO_STREAMING_MP3 = 3
+};
+
+enum stuiverhaag_originators {
+    STUIVERHAAG_ORG_PEP = 1,
+    STUIVERHAAG_ORG_EAS = 2,
+    STUIVERHAAG_ORG_WXR = 3,
+    STUIVERHAAG_ORG_CIV = 4
+};
+
+/* How many bytes a message has at most, and how many a station has. */
+#define STUIVERHAAG_MESSAGE_LONGEST 32768
+#define STUIVERHAAG_STATION_LENGTH 8
 
 /* How long a lent output has to be, whatever is written into it. */
-#define STUIVERHAAG_HEADER 252
-#define STUIVERHAAG_TEXT 1800
-#define STUIVERHAAG_URI 1024
+#define STUIVERHAAG_HEADER_LENGTH 252
+#define STUIVERHAAG_TEXT_LENGTH 1800
+#define STUIVERHAAG_URI_LENGTH 1024
+
+/* How long a record of a board is, and how many records a board has at most. */
+#define STUIVERHAAG_RECORD_LENGTH 384
+#define STUIVERHAAG_RECORDS_MOST 170
+
+/* Where a record has its header, without the station and zero-filled, and how long it is there. */
+#define STUIVERHAAG_RECORD_HEADER_AT 133
+#define STUIVERHAAG_RECORD_HEADER_LENGTH 243
 
 /*
- * Converts a CAP message. Lent to be read: the message, and the station's 8 bytes. Lent to be
- * written: the header, the alert text, and the uri of the audio.
+ * Converts a CAP message. Lent to be read: the message, and the station. Lent to be written: the
+ * header, the alert text, and the uri of the audio.
  *
  * Numbers 0 and 2 to 14. After 0 the answer has header_length, text_length, audio, uri_length
  * and carry. A Cancel that activates nothing answers 0 with all of these 0.
@@ -76,9 +130,9 @@ uint64_t stuiverhaag_convert(const uint8_t *message, size_t message_length,
 uint64_t stuiverhaag_read_header(const uint8_t *header, size_t header_length);
 
 /*
- * Writes a header. The originator is 1 PEP, 2 EAS, 3 WXR or 4 CIV; the period is in minutes; the
- * day is that of the year. Lent to be read: the event, the locations as 6 digits each, one behind
- * the other, and the station. Lent to be written: out.
+ * Writes a header. The originator is one of enum stuiverhaag_originators; the period is in
+ * minutes; the day is that of the year. Lent to be read: the event, the locations as 6 digits
+ * each, one behind the other, and the station. Lent to be written: out.
  *
  * Numbers 0, 2, 3 and 17. After 0 the answer has header_length.
  */
@@ -93,7 +147,8 @@ uint64_t stuiverhaag_write_header(uint32_t originator,
  * Offers a message to a board: adds its notice, unless it is a Cancel that activates nothing, and
  * a withdrawal for each reference of an Update or Cancel, all or none; what the board holds
  * already is not added again. Lent to be read: the message. Lent to be read and written: the
- * board, 1 to STUIVERHAAG_RECORDS records of STUIVERHAAG_RECORD bytes, at first all zero.
+ * board, 1 to STUIVERHAAG_RECORDS_MOST records of STUIVERHAAG_RECORD_LENGTH bytes, at first all
+ * zero.
  *
  * Numbers 0, 1 and 4 to 15. After 0 the answer has added.
  */
@@ -102,8 +157,8 @@ uint64_t stuiverhaag_offer(uint8_t *board, size_t board_length,
 
 /*
  * Hands out the first due header of a board, and adds its record of having been aired. The board
- * is lent to be read and written. The header, without its station and zero-filled to 243 bytes,
- * stands at index 133 of the record that the index counts, before the call and after it.
+ * is lent to be read and written. The header stands at STUIVERHAAG_RECORD_HEADER_AT of the record
+ * that the index counts, before the call and after it.
  *
  * Numbers 0, 1, 16 and 15, asked in this order. After 0 the answer has index.
  */
@@ -123,7 +178,7 @@ static inline unsigned stuiverhaag_number(uint64_t answer)
     return stuiverhaag_bits(answer, 0, 8);
 }
 
-/* Of stuiverhaag_convert and stuiverhaag_offer: after 7 the field, else 0. */
+/* Of stuiverhaag_convert and stuiverhaag_offer: after 7 one of enum stuiverhaag_fields, else 0. */
 static inline unsigned stuiverhaag_field(uint64_t answer)
 {
     return stuiverhaag_bits(answer, 8, 8);
@@ -135,7 +190,7 @@ static inline size_t stuiverhaag_header_length(uint64_t answer)
     return stuiverhaag_bits(answer, 16, 8);
 }
 
-/* Of stuiverhaag_convert: 0 no audio, 1 mp3, 2 wav, 3 streaming mp3. */
+/* Of stuiverhaag_convert: one of enum stuiverhaag_audios. */
 static inline unsigned stuiverhaag_audio(uint64_t answer)
 {
     return stuiverhaag_bits(answer, 24, 4);
@@ -174,7 +229,7 @@ static inline unsigned stuiverhaag_index(uint64_t answer)
     return stuiverhaag_bits(answer, 16, 16);
 }
 
-/* Of stuiverhaag_read_header: 1 PEP, 2 EAS, 3 WXR, 4 CIV. */
+/* Of stuiverhaag_read_header: one of enum stuiverhaag_originators. */
 static inline unsigned stuiverhaag_originator(uint64_t answer)
 {
     return stuiverhaag_bits(answer, 8, 8);
@@ -209,5 +264,9 @@ static inline unsigned stuiverhaag_day(uint64_t answer)
 {
     return stuiverhaag_bits(answer, 55, 9);
 }
+
+#ifdef __cplusplus
+}
+#endif
 
 #endif

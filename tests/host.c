@@ -105,9 +105,9 @@ static void give_back(struct loans *loans)
 static void check_refusal(uint64_t answer)
 {
     unsigned number = stuiverhaag_number(answer);
-    uint64_t field = number == 7 ? stuiverhaag_field(answer) : 0;
+    uint64_t field = number == STUIVERHAAG_ELEMENT_BAD ? stuiverhaag_field(answer) : 0;
 
-    if (number != 0 && answer != (field << 8 | number))
+    if (number != STUIVERHAAG_DONE && answer != (field << 8 | number))
         broken("A refusal has more than its number.");
 }
 
@@ -267,7 +267,12 @@ static void print_written(const struct lent *lent)
 
 /* ---- the calls: each answers its line, or says that the line is none */
 
-static const char *const originators[] = {"", "PEP", "EAS", "WXR", "CIV"};
+static const char *const originators[] = {
+    [STUIVERHAAG_ORG_PEP] = "PEP",
+    [STUIVERHAAG_ORG_EAS] = "EAS",
+    [STUIVERHAAG_ORG_WXR] = "WXR",
+    [STUIVERHAAG_ORG_CIV] = "CIV",
+};
 
 /* What a header that was read says: numbers by the answer, all else by the header's own bytes. */
 static void print_read(uint64_t answer, const struct lent *header)
@@ -275,7 +280,7 @@ static void print_read(uint64_t answer, const struct lent *header)
     unsigned originator = stuiverhaag_originator(answer);
     size_t locations = stuiverhaag_locations(answer);
 
-    if (originator < 1 || originator > 4)
+    if (originator < STUIVERHAAG_ORG_PEP || originator > STUIVERHAAG_ORG_CIV)
         broken("The originator is none of the four.");
     if (locations < 1 || header->length != 35 + 7 * locations)
         broken("The header has another number of locations.");
@@ -287,7 +292,7 @@ static void print_read(uint64_t answer, const struct lent *header)
     }
     printf(" %u %u %u %u ", stuiverhaag_period(answer), stuiverhaag_day(answer),
            stuiverhaag_hour(answer), stuiverhaag_minute(answer));
-    print_hex(header->bytes + header->length - 9, 8);
+    print_hex(header->bytes + header->length - STUIVERHAAG_STATION_LENGTH - 1, STUIVERHAAG_STATION_LENGTH);
     putchar('\n');
 }
 
@@ -306,7 +311,7 @@ static bool answer_read(const struct line *line, struct loans *loans)
     answer = stuiverhaag_read_header(header->bytes, header->length);
     check_refusal(answer);
     compare(loans);
-    if (stuiverhaag_number(answer) != 0)
+    if (stuiverhaag_number(answer) != STUIVERHAAG_DONE)
         printf("%u - - - 0 0 0 0 -\n", stuiverhaag_number(answer));
     else
         print_read(answer, header);
@@ -316,7 +321,7 @@ static bool answer_read(const struct line *line, struct loans *loans)
 /* The number of an originator's word, and 0 for any other. */
 static uint32_t originator_number(struct field field)
 {
-    for (uint32_t i = 1; i <= 4; i++)
+    for (uint32_t i = STUIVERHAAG_ORG_PEP; i <= STUIVERHAAG_ORG_CIV; i++)
         if (is(field, originators[i]))
             return i;
     return 0;
@@ -396,7 +401,7 @@ static bool answer_convert(const struct line *line, struct loans *loans)
 static void board_answered(struct lent *board, uint64_t answer)
 {
     check_refusal(answer);
-    board->written = stuiverhaag_number(answer) == 0 ? board->length : 0;
+    board->written = stuiverhaag_number(answer) == STUIVERHAAG_DONE ? board->length : 0;
 }
 
 /* offer BOARD MESSAGE */

@@ -7,7 +7,9 @@
 #include <stdlib.h>
 #include <string.h>
 
-#define RECORD STUIVERHAAG_RECORD
+#define RECORD STUIVERHAAG_RECORD_LENGTH
+#define HEADER_AT STUIVERHAAG_RECORD_HEADER_AT
+#define HEADER_ROOM STUIVERHAAG_RECORD_HEADER_LENGTH
 #define SENT_AT 1
 #define SENDER_AT 5
 #define IDENTIFIER_AT 69
@@ -110,7 +112,7 @@ static int by_bytes(const void *a, const void *b)
 
 void made_board(struct bytes *board, size_t records, size_t filled, size_t world)
 {
-    static uint8_t made[STUIVERHAAG_RECORDS][RECORD];
+    static uint8_t made[STUIVERHAAG_RECORDS_MOST][RECORD];
 
     for (size_t i = 0; i < filled; i++)
         make_record(made[i], world);

@@ -4,10 +4,6 @@
 
 #include "chance.h"
 
-/* Where a record holds its header, zero-filled, and how long that is. */
-#define HEADER_AT 133
-#define HEADER_ROOM 243
-
 /* A board of so many records, all zero. */
 void empty_board(struct bytes *board, size_t records);
 

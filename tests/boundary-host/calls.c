@@ -7,9 +7,8 @@
 #include <stdio.h>
 #include <string.h>
 
-#define NUMBERS 18
-#define FIELDS 8
-#define LONGEST_MESSAGE 32768
+#define NUMBERS (STUIVERHAAG_NO_HEADER + 1)
+#define FIELDS (STUIVERHAAG_FIELD_OTHER + 1)
 
 /* What a call does with a slice. */
 enum use { IS_READ, IS_WRITTEN, IS_CHANGED };
@@ -88,9 +87,9 @@ static bool is_printable(const struct bytes *bytes)
 
 static bool is_station(struct slice station)
 {
-    if (station.length != 8)
+    if (station.length != STUIVERHAAG_STATION_LENGTH)
         return false;
-    for (size_t i = 0; i < 8; i++)
+    for (size_t i = 0; i < STUIVERHAAG_STATION_LENGTH; i++)
         if (station.bytes[i] < 32 || station.bytes[i] > 126 || station.bytes[i] == '-' || station.bytes[i] == '+')
             return false;
     return true;
@@ -98,29 +97,30 @@ static bool is_station(struct slice station)
 
 static bool is_message_length(size_t length)
 {
-    return length >= 1 && length <= LONGEST_MESSAGE;
+    return length >= 1 && length <= STUIVERHAAG_MESSAGE_LONGEST;
 }
 
 static bool is_board_length(size_t length)
 {
-    return length % STUIVERHAAG_RECORD == 0 && length > 0 &&
-           length <= (size_t)STUIVERHAAG_RECORDS * STUIVERHAAG_RECORD;
+    return length % STUIVERHAAG_RECORD_LENGTH == 0 && length > 0 &&
+           length <= (size_t)STUIVERHAAG_RECORDS_MOST * STUIVERHAAG_RECORD_LENGTH;
 }
 
 static bool is_header_length(size_t length)
 {
-    return length >= 42 && length <= STUIVERHAAG_HEADER && length % 7 == 0;
+    return length >= 42 && length <= STUIVERHAAG_HEADER_LENGTH && length % 7 == 0;
 }
 
 /* A refusal is its number alone, and after 7 its field. */
 static void check_number(enum call call, uint64_t answer)
 {
     unsigned number = stuiverhaag_number(answer);
-    uint64_t field = number == 7 ? stuiverhaag_field(answer) : 0;
+    uint64_t field = number == STUIVERHAAG_ELEMENT_BAD ? stuiverhaag_field(answer) : 0;
 
     must(number < NUMBERS && (numbers[call] >> number & 1) == 1, "The number is none that this call may answer.");
-    must(number == 0 || answer == (field << 8 | number), "A refusal has more than its number.");
-    must(number != 7 || (field >= 1 && field <= 7), "The field is none of 1 to 7.");
+    must(number == STUIVERHAAG_DONE || answer == (field << 8 | number), "A refusal has more than its number.");
+    must(number != STUIVERHAAG_ELEMENT_BAD ||
+         (field >= STUIVERHAAG_FIELD_IDENTIFIER && field <= STUIVERHAAG_FIELD_OTHER), "The field is none of 1 to 7.");
 }
 
 /* A number that lengths and the station alone decide is answered exactly where they do. */
@@ -131,30 +131,37 @@ static void check_decided(const struct asked *asked, unsigned number)
 
     switch (asked->call) {
     case CONVERT:
-        is_short = used[2].slice.length < STUIVERHAAG_HEADER || used[3].slice.length < STUIVERHAAG_TEXT ||
-                   used[4].slice.length < STUIVERHAAG_URI;
-        must((number == 2) == is_short, "Number 2 does not go with the lengths of the outputs.");
+        is_short = used[2].slice.length < STUIVERHAAG_HEADER_LENGTH ||
+                   used[3].slice.length < STUIVERHAAG_TEXT_LENGTH || used[4].slice.length < STUIVERHAAG_URI_LENGTH;
+        must((number == STUIVERHAAG_OUTPUT_SHORT) == is_short,
+             "Number 2 does not go with the lengths of the outputs.");
         if (!is_short)
-            must((number == 3) == !is_station(used[1].slice), "Number 3 does not go with the station.");
-        if (!is_short && number != 3)
-            must((number == 4) == !is_message_length(used[0].slice.length), "Number 4 does not go with the length.");
+            must((number == STUIVERHAAG_STATION_BAD) == !is_station(used[1].slice),
+                 "Number 3 does not go with the station.");
+        if (!is_short && number != STUIVERHAAG_STATION_BAD)
+            must((number == STUIVERHAAG_MESSAGE_LENGTH_BAD) == !is_message_length(used[0].slice.length),
+                 "Number 4 does not go with the length.");
         break;
     case READ_HEADER:
-        must(number == 17 || is_header_length(used[0].slice.length), "A header of such a length is none.");
+        must(number == STUIVERHAAG_NO_HEADER || is_header_length(used[0].slice.length), "A header of such a length is none.");
         break;
     case WRITE_HEADER:
-        is_short = used[3].slice.length < STUIVERHAAG_HEADER;
-        must((number == 2) == is_short, "Number 2 does not go with the length of the output.");
+        is_short = used[3].slice.length < STUIVERHAAG_HEADER_LENGTH;
+        must((number == STUIVERHAAG_OUTPUT_SHORT) == is_short, "Number 2 does not go with the length of the output.");
         if (!is_short)
-            must((number == 3) == !is_station(used[2].slice), "Number 3 does not go with the station.");
+            must((number == STUIVERHAAG_STATION_BAD) == !is_station(used[2].slice),
+                 "Number 3 does not go with the station.");
         break;
     case OFFER:
-        must(number == 1 || is_board_length(used[0].slice.length), "A board of such a length is none.");
-        if (number != 1)
-            must((number == 4) == !is_message_length(used[1].slice.length), "Number 4 does not go with the length.");
+        must(number == STUIVERHAAG_BOARD_RULES || is_board_length(used[0].slice.length),
+             "A board of such a length is none.");
+        if (number != STUIVERHAAG_BOARD_RULES)
+            must((number == STUIVERHAAG_MESSAGE_LENGTH_BAD) == !is_message_length(used[1].slice.length),
+                 "Number 4 does not go with the length.");
         break;
     default:
-        must(number == 1 || is_board_length(used[0].slice.length), "A board of such a length is none.");
+        must(number == STUIVERHAAG_BOARD_RULES || is_board_length(used[0].slice.length),
+             "A board of such a length is none.");
     }
 }
 
@@ -172,11 +179,13 @@ static void check_converted(const struct answered *answered)
         return;
     }
     must(is_header_length(header->length), "The header has a length that no header has.");
-    must(text->length > 0 && text->length <= STUIVERHAAG_TEXT, "The text has no byte, or more than 1,800.");
+    must(text->length > 0 && text->length <= STUIVERHAAG_TEXT_LENGTH, "The text has no byte, or more than 1,800.");
     must(is_printable(text), "The text has a byte that is none of 32 to 126.");
-    must(stuiverhaag_audio(answer) <= 3 && stuiverhaag_carry(answer) <= 1, "Audio or carry is none of its numbers.");
-    must((stuiverhaag_audio(answer) == 0) == (uri->length == 0), "There is a uri without audio, or none with it.");
-    must(uri->length <= STUIVERHAAG_URI, "The uri has more than 1,024 bytes.");
+    must(stuiverhaag_audio(answer) <= STUIVERHAAG_AUDIO_STREAMING_MP3 && stuiverhaag_carry(answer) <= 1,
+         "Audio or carry is none of its numbers.");
+    must((stuiverhaag_audio(answer) == STUIVERHAAG_AUDIO_NONE) == (uri->length == 0),
+         "There is a uri without audio, or none with it.");
+    must(uri->length <= STUIVERHAAG_URI_LENGTH, "The uri has more than 1,024 bytes.");
     must(is_printable(uri), "The uri has a byte that is none of 32 to 126.");
 }
 
@@ -186,7 +195,7 @@ static void check_read(uint64_t answer, size_t length)
     unsigned period = stuiverhaag_period(answer);
     unsigned day = stuiverhaag_day(answer);
 
-    must(originator >= 1 && originator <= 4, "The originator is none of the four.");
+    must(originator >= STUIVERHAAG_ORG_PEP && originator <= STUIVERHAAG_ORG_CIV, "The originator is none of the four.");
     must(length == 35 + 7 * stuiverhaag_locations(answer), "The header has another number of locations.");
     must(period == 15 || period == 45 || (period % 30 == 0 && period >= 30 && period <= 5970), "The period is none.");
     must(day >= 1 && day <= 366, "The day is none of 1 to 366.");
@@ -222,7 +231,7 @@ static void check_done(const struct asked *asked, const struct answered *answere
 /* How many bytes of a slice the answer says were written. After 0 any byte of a board may be another. */
 static size_t written(const struct asked *asked, uint64_t answer, size_t which)
 {
-    if (asked->used[which].use == IS_READ || stuiverhaag_number(answer) != 0)
+    if (asked->used[which].use == IS_READ || stuiverhaag_number(answer) != STUIVERHAAG_DONE)
         return 0;
     if (asked->used[which].use == IS_CHANGED)
         return asked->used[which].slice.length;
@@ -279,7 +288,7 @@ static void count(const struct asked *asked, uint64_t answer)
     bool has_wide = false;
 
     counts[asked->call][stuiverhaag_number(answer)]++;
-    if (stuiverhaag_number(answer) == 7)
+    if (stuiverhaag_number(answer) == STUIVERHAAG_ELEMENT_BAD)
         fields[asked->call][stuiverhaag_field(answer)]++;
     if (asked->call == CONVERT && answer == 0)
         quiet++;
@@ -311,7 +320,7 @@ static void ask_once(const struct asked *asked, enum side side, struct answered 
         answered->wrote[i].length = 0;
         put_bytes(&answered->wrote[i], lent[i], length);
     }
-    if (stuiverhaag_number(answered->answer) == 0)
+    if (stuiverhaag_number(answered->answer) == STUIVERHAAG_DONE)
         check_done(asked, answered);
 }
 
@@ -374,7 +383,7 @@ static uint64_t ask_board(const struct asked *asked, struct bytes *board)
 {
     uint64_t answer = ask(asked);
 
-    if (stuiverhaag_number(answer) == 0)
+    if (stuiverhaag_number(answer) == STUIVERHAAG_DONE)
         copy(board, &last.wrote[0]);
     return answer;
 }

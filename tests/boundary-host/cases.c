@@ -11,14 +11,16 @@
 #include <stdio.h>
 #include <string.h>
 
-#define RECORD STUIVERHAAG_RECORD
-#define RECORDS STUIVERHAAG_RECORDS
+#define RECORD STUIVERHAAG_RECORD_LENGTH
+#define HEADER_AT STUIVERHAAG_RECORD_HEADER_AT
+#define HEADER_ROOM STUIVERHAAG_RECORD_HEADER_LENGTH
+#define STATION STUIVERHAAG_STATION_LENGTH
 #define MOST_RELATED 8
 #define MOST_HANDED 256
 
 static const uint8_t bench[] = "BENCH/01";
-static const struct slice bench_station = {bench, 8};
-static const struct lengths just_enough = {STUIVERHAAG_HEADER, STUIVERHAAG_TEXT, STUIVERHAAG_URI};
+static const struct slice bench_station = {bench, STATION};
+static const struct lengths just_enough = {STUIVERHAAG_HEADER_LENGTH, STUIVERHAAG_TEXT_LENGTH, STUIVERHAAG_URI_LENGTH};
 
 /* How often what one call gave was held beside what another gave. */
 static struct {
@@ -39,7 +41,7 @@ static void put_station(struct bytes *out)
         put(out, PICK(odd));
         return;
     }
-    for (size_t left = 8; left > 0; left--)
+    for (size_t left = STATION; left > 0; left--)
         put_byte(out, (unsigned)(once_in(4) ? marks[below(sizeof marks - 1)] : 'A' + (int)below(26)));
 }
 
@@ -56,12 +58,12 @@ static void check_written_again(struct slice header, uint64_t answer)
         .minute = stuiverhaag_minute(answer),
         .event = {header.bytes + 9, 3},
         .locations = {locations, 6 * count},
-        .station = {header.bytes + header.length - 9, 8},
+        .station = {header.bytes + header.length - STATION - 1, STATION},
     };
 
     for (size_t i = 0; i < count; i++)
         memcpy(locations + 6 * i, header.bytes + 13 + 7 * i, 6);
-    if (stuiverhaag_number(write_header(&parts, STUIVERHAAG_HEADER)) != 0)
+    if (stuiverhaag_number(write_header(&parts, STUIVERHAAG_HEADER_LENGTH)) != STUIVERHAAG_DONE)
         broken("The parts of a header that was read are refused.");
     if (written_header().length != header.length || memcmp(written_header().bytes, header.bytes, header.length) != 0)
         broken("The parts of a header that was read give another header.");
@@ -73,7 +75,7 @@ static bool check_header(struct slice header)
 {
     uint64_t answer = read_header(header);
 
-    if (stuiverhaag_number(answer) != 0)
+    if (stuiverhaag_number(answer) != STUIVERHAAG_DONE)
         return false;
     check_written_again(header, answer);
     return true;
@@ -167,12 +169,12 @@ static void put_locations(struct bytes *out)
 static void check_read_again(const struct parts *parts)
 {
     struct slice written = written_header();
-    uint8_t header[STUIVERHAAG_HEADER];
+    uint8_t header[STUIVERHAAG_HEADER_LENGTH];
     uint64_t answer;
 
     memcpy(header, written.bytes, written.length);
     answer = read_header((struct slice){header, written.length});
-    if (stuiverhaag_number(answer) != 0)
+    if (stuiverhaag_number(answer) != STUIVERHAAG_DONE)
         broken("A header that was written is refused.");
     if (stuiverhaag_originator(answer) != parts->originator || stuiverhaag_period(answer) != parts->period ||
         stuiverhaag_day(answer) != parts->day || stuiverhaag_hour(answer) != parts->hour ||
@@ -182,7 +184,7 @@ static void check_read_again(const struct parts *parts)
         if (header[13 + i + i / 6] != parts->locations.bytes[i])
             broken("A location is read that was not written.");
     if (memcmp(header + 9, parts->event.bytes, 3) != 0 ||
-        memcmp(header + written.length - 9, parts->station.bytes, 8) != 0)
+        memcmp(header + written.length - STATION - 1, parts->station.bytes, STATION) != 0)
         broken("An event or a station is read that was not written.");
     compared.read_again++;
 }
@@ -203,7 +205,7 @@ static void case_write(void)
     static const uint32_t periods[] = {15, 30, 45, 60, 90, 5940, 5970, 1410};
     struct parts parts;
 
-    parts.originator = draw_number(1, 4);
+    parts.originator = draw_number(STUIVERHAAG_ORG_PEP, STUIVERHAAG_ORG_CIV);
     parts.period = once_in(8) ? draw_number(0, 6000) : or_other(PICK(periods));
     parts.day = draw_number(1, 366);
     parts.hour = draw_number(0, 23);
@@ -214,7 +216,7 @@ static void case_write(void)
     parts.event = slice_of(&event);
     parts.locations = slice_of(&locations);
     parts.station = slice_of(&station);
-    if (stuiverhaag_number(write_header(&parts, draw_length(STUIVERHAAG_HEADER))) == 0)
+    if (stuiverhaag_number(write_header(&parts, draw_length(STUIVERHAAG_HEADER_LENGTH))) == STUIVERHAAG_DONE)
         check_read_again(&parts);
 }
 
@@ -225,12 +227,12 @@ static void check_convert(struct slice message, struct slice station, struct len
 {
     uint64_t answer = convert(message, station, lengths);
     struct slice written = written_header();
-    uint8_t header[STUIVERHAAG_HEADER];
+    uint8_t header[STUIVERHAAG_HEADER_LENGTH];
 
-    if (stuiverhaag_number(answer) != 0 || written.length == 0)
+    if (stuiverhaag_number(answer) != STUIVERHAAG_DONE || written.length == 0)
         return;
     memcpy(header, written.bytes, written.length);
-    if (memcmp(header + written.length - 9, station.bytes, 8) != 0)
+    if (memcmp(header + written.length - STATION - 1, station.bytes, STATION) != 0)
         broken("The header has another station.");
     if (!check_header((struct slice){header, written.length}))
         broken("The header of a conversion is refused.");
@@ -241,9 +243,9 @@ static void case_convert(void)
     static struct bytes message, station;
     struct lengths lengths;
 
-    lengths.header = draw_length(STUIVERHAAG_HEADER);
-    lengths.text = draw_length(STUIVERHAAG_TEXT);
-    lengths.uri = draw_length(STUIVERHAAG_URI);
+    lengths.header = draw_length(STUIVERHAAG_HEADER_LENGTH);
+    lengths.text = draw_length(STUIVERHAAG_TEXT_LENGTH);
+    lengths.uri = draw_length(STUIVERHAAG_URI_LENGTH);
     any_message(&message);
     put_station(&station);
     check_convert(slice_of(&message), slice_of(&station), lengths);
@@ -265,14 +267,14 @@ static void check_agreement(const struct bytes *board, struct slice message, uin
     uint64_t converted = convert(message, bench_station, just_enough);
     unsigned number = stuiverhaag_number(offered);
 
-    if (number == 1)
+    if (number == STUIVERHAAG_BOARD_RULES)
         return;
-    if (stuiverhaag_number(converted) != (number == 15 ? 0 : number) ||
+    if (stuiverhaag_number(converted) != (number == STUIVERHAAG_BOARD_FULL ? STUIVERHAAG_DONE : number) ||
         stuiverhaag_field(converted) != stuiverhaag_field(offered))
         broken("An offer and a conversion of one message answer different numbers.");
-    if (number != 0 || stuiverhaag_header_length(converted) == 0)
+    if (number != STUIVERHAAG_DONE || stuiverhaag_header_length(converted) == 0)
         return;
-    if (!holds_notice(board, written_header().bytes, stuiverhaag_header_length(converted) - 9))
+    if (!holds_notice(board, written_header().bytes, stuiverhaag_header_length(converted) - STATION - 1))
         broken("The board holds no notice with the header that the conversion gives.");
     compared.notices++;
 }
@@ -285,19 +287,19 @@ static unsigned check_offer(struct bytes *board, struct slice message)
 
     copy(&before, board);
     answer = offer(board, message);
-    if (stuiverhaag_number(answer) == 0)
+    if (stuiverhaag_number(answer) == STUIVERHAAG_DONE)
         check_grown(&before, board, stuiverhaag_added(answer));
     if (stuiverhaag_added(answer) > 17)
         broken("More was added than a notice and sixteen withdrawals.");
     if (once_in(4))
         check_agreement(board, message, answer);
-    if (stuiverhaag_number(answer) != 0)
+    if (stuiverhaag_number(answer) != STUIVERHAAG_DONE)
         return stuiverhaag_number(answer);
     copy(&after, board);
     if (offer(board, message) != 0 || memcmp(board->byte, after.byte, after.length) != 0)
         broken("A message that was taken is not taken again with nothing added.");
     compared.taken_again += stuiverhaag_added(answer) > 0;
-    return 0;
+    return STUIVERHAAG_DONE;
 }
 
 /* A message that ends at each of its places, converted and offered. */
@@ -340,11 +342,11 @@ static unsigned check_hand_out(struct bytes *board, struct handed *handed)
 
     copy(&before, board);
     answer = hand_out(board);
-    if (stuiverhaag_number(answer) != 0)
+    if (stuiverhaag_number(answer) != STUIVERHAAG_DONE)
         return stuiverhaag_number(answer);
     check_aired(&before, board, stuiverhaag_index(answer));
     check_handed(handed, board->byte + stuiverhaag_index(answer) * RECORD + HEADER_AT);
-    return 0;
+    return STUIVERHAAG_DONE;
 }
 
 /*
@@ -377,7 +379,7 @@ static size_t draw_records(void)
 {
     static const size_t counts[] = {1, 1, 2, 3, 4, 6, 8, 12, 16, 20, 30};
 
-    return once_in(60) ? RECORDS : PICK(counts);
+    return once_in(60) ? STUIVERHAAG_RECORDS_MOST : PICK(counts);
 }
 
 /* Offers and hand-outs on one board that began empty. */
@@ -405,7 +407,7 @@ static void case_chain(void)
         check_offer(&board, slice_of(&message));
         handed.since = 0;
     }
-    while (check_hand_out(&board, &handed) == 0)
+    while (check_hand_out(&board, &handed) == STUIVERHAAG_DONE)
         ;
 }
 
@@ -421,11 +423,11 @@ static void case_orders(void)
     empty_board(&other, MOST_RELATED * 17);
     for (size_t i = 0; i < MOST_RELATED; i++) {
         write_alert(&taken[count], &related[(turn + 5 * i) % MOST_RELATED]);
-        if (check_offer(&board, slice_of(&taken[count])) == 0)
+        if (check_offer(&board, slice_of(&taken[count])) == STUIVERHAAG_DONE)
             count++;
     }
     for (size_t i = count; i > 0; i--)
-        if (check_offer(&other, slice_of(&taken[i - 1])) != 0)
+        if (check_offer(&other, slice_of(&taken[i - 1])) != STUIVERHAAG_DONE)
             broken("A message that one board took is refused by another.");
     if (memcmp(board.byte, other.byte, board.length) != 0)
         broken("The same messages in another order leave another board.");
@@ -450,7 +452,7 @@ static void case_board(void)
         any_message(&message);
         check_offer(&board, slice_of(&message));
     }
-    while (check_hand_out(&board, &handed) == 0)
+    while (check_hand_out(&board, &handed) == STUIVERHAAG_DONE)
         ;
 }
 
@@ -484,18 +486,18 @@ static void wide_header(void)
 {
     static const uint8_t event[] = "CEM", locations[] = "024031";
     static const uint8_t header[] = "ZCZC-PEP-CEM-024031+0030-0010000-BENCH/01-";
-    struct parts parts = {1, 30, 1, 0, 0, {event, 3}, {locations, 6}, bench_station};
+    struct parts parts = {STUIVERHAAG_ORG_PEP, 30, 1, 0, 0, {event, 3}, {locations, 6}, bench_station};
     struct slice *part[] = {&parts.event, &parts.locations, &parts.station};
 
     check_header((struct slice){header, WIDE + 42});
-    if (stuiverhaag_number(write_header(&parts, WIDE)) != 0)
+    if (stuiverhaag_number(write_header(&parts, WIDE)) != STUIVERHAAG_DONE)
         broken("An output of more than 4,294,967,295 bytes is refused.");
     check_read_again(&parts);
     for (size_t i = 0; i < COUNT(part); i++) {
         struct slice narrow = *part[i];
 
         *part[i] = widened(narrow);
-        if (stuiverhaag_number(write_header(&parts, STUIVERHAAG_HEADER)) == 0)
+        if (stuiverhaag_number(write_header(&parts, STUIVERHAAG_HEADER_LENGTH)) == STUIVERHAAG_DONE)
             broken("A part of more than 4,294,967,295 bytes is written.");
         *part[i] = narrow;
     }

@@ -47,11 +47,11 @@ use Rattle.board.proofs.list_rows.Reads as list-rows
 use Rattle.offers.specs.declared.Offered.{Offered}
 use Rattle.offers.proofs.offer.Reads as offer
 use Rattle.report.proofs.program.Reads as program
-use Rattle.host.proofs.stuiverhaag_convert.Reads as host-convert
-use Rattle.host.proofs.stuiverhaag_read_header.Reads as host-read
-use Rattle.host.proofs.stuiverhaag_write_header.Reads as host-write
-use Rattle.host.proofs.stuiverhaag_offer.Reads as host-offer
-use Rattle.host.proofs.stuiverhaag_hand_out.Reads as host-hand-out
+use Rattle.stuiverhaag.proofs.stuiverhaag_convert.Reads as host-convert
+use Rattle.stuiverhaag.proofs.stuiverhaag_read_header.Reads as host-read
+use Rattle.stuiverhaag.proofs.stuiverhaag_write_header.Reads as host-write
+use Rattle.stuiverhaag.proofs.stuiverhaag_offer.Reads as host-offer
+use Rattle.stuiverhaag.proofs.stuiverhaag_hand_out.Reads as host-hand-out
 use Rattle.demands.proofs.Arguments.{Lifetimes, Lent, Slices, Rows, Named, outOf}
 use Rattle.demands.proofs.Ties.{list-is-listing}
 

@@ -42,12 +42,12 @@ use Rattle.offers.specs.declared.Offered.{Offered}
 use Rattle.offers.proofs.offer.Reads as offer
 use Rattle.report.specs.Program.{printed, programOf}
 use Rattle.report.proofs.program.Reads as program
-use Rattle.host.specs.Packed.{packedConverted, packedRead, packedWritten, packedOffered, packedHanded}
-use Rattle.host.proofs.stuiverhaag_convert.Reads as host-convert
-use Rattle.host.proofs.stuiverhaag_read_header.Reads as host-read
-use Rattle.host.proofs.stuiverhaag_write_header.Reads as host-write
-use Rattle.host.proofs.stuiverhaag_offer.Reads as host-offer
-use Rattle.host.proofs.stuiverhaag_hand_out.Reads as host-hand-out
+use Rattle.stuiverhaag.specs.Packed.{packedConverted, packedRead, packedWritten, packedOffered, packedHanded}
+use Rattle.stuiverhaag.proofs.stuiverhaag_convert.Reads as host-convert
+use Rattle.stuiverhaag.proofs.stuiverhaag_read_header.Reads as host-read
+use Rattle.stuiverhaag.proofs.stuiverhaag_write_header.Reads as host-write
+use Rattle.stuiverhaag.proofs.stuiverhaag_offer.Reads as host-offer
+use Rattle.stuiverhaag.proofs.stuiverhaag_hand_out.Reads as host-hand-out
 use Rattle.demands.specs.Calls.{Writing, library}
 use Rattle.demands.proofs.Arguments.{Lifetimes, Lent, Slices, Rows, Named, outOf}
 

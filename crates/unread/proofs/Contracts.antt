@@ -21,9 +21,9 @@ use Rattle.offers.specs.Offer.{Offering}
 use Rattle.offers.specs.declared.Offered.{Offered}
 use Rattle.offers.proofs.offer.Reads as offer
 use Rattle.report.proofs.program.Reads as program
-use Rattle.host.specs.Packed.{packedConverted, packedOffered}
-use Rattle.host.proofs.stuiverhaag_convert.Reads as host-convert
-use Rattle.host.proofs.stuiverhaag_offer.Reads as host-offer
+use Rattle.stuiverhaag.specs.Packed.{packedConverted, packedOffered}
+use Rattle.stuiverhaag.proofs.stuiverhaag_convert.Reads as host-convert
+use Rattle.stuiverhaag.proofs.stuiverhaag_offer.Reads as host-offer
 use Rattle.demands.specs.Calls.{library}
 use Rattle.demands.proofs.Arguments.{Lifetimes, Lent, Slices}
 use Rattle.unread.specs.Kept.{OnlyUnreadDiffers}

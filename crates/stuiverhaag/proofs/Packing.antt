@@ -16,7 +16,7 @@ use Rattle.header.proofs.WriteThenRead.{write-small}
 use Rattle.header.specs.Header.{readOf, writeOf}
 use Rattle.header.specs.declared.Read.{Read}
 use Rattle.header.specs.declared.Written.{Written}
-use Rattle.host.specs.Packed.{NarrowConverted, packedBody, NarrowBody, packedRead}
+use Rattle.stuiverhaag.specs.Packed.{NarrowConverted, packedBody, NarrowBody, packedRead}
 use Rattle.parts.specs.Originator.{numberOf}
 use Rattle.parts.specs.declared.Originator.{Originator}
 use Rattle.parts.specs.declared.Originator.the-variants.{Pep, Eas, Wxr, Civ}

@@ -1,9 +1,9 @@
 -- The answer is packed; its parts fit the bits that they have.
 use mathlib.Core.Path.{ap}
-use Rattle.host.specs.Packed.{packedOffered}
+use Rattle.stuiverhaag.specs.Packed.{packedOffered}
 use borrow.Author.Needs.{needs}
-use Rattle.host.proofs.stuiverhaag_offer.Statement.{statement}
-use Rattle.host.proofs.stuiverhaag_offer.Tie as tie
+use Rattle.stuiverhaag.proofs.stuiverhaag_offer.Statement.{statement}
+use Rattle.stuiverhaag.proofs.stuiverhaag_offer.Tie as tie
 
 offer-requires : tie.Need-offer-requires
 offer-requires c κs = search needs

@@ -23,8 +23,8 @@ use Rattle.board.specs.Calls.{handOf}
 use Rattle.board.specs.declared.Handed.{Handed}
 use Rattle.offers.specs.Offer.{offerOf}
 use Rattle.offers.specs.declared.Offered.{Offered}
-use Rattle.host.proofs.Packing.{convert-narrow, read-narrow, offer-narrow, hand-narrow}
-use Rattle.host.specs.Packed.{bit8, bit16, bit24, bit28, bit32, bit48, bit55, packedConverted, NarrowConverted, NarrowBody, packedRead, packedWritten, packedOffered, packedHanded}
+use Rattle.stuiverhaag.proofs.Packing.{convert-narrow, read-narrow, offer-narrow, hand-narrow}
+use Rattle.stuiverhaag.specs.Packed.{bit8, bit16, bit24, bit28, bit32, bit48, bit55, packedConverted, NarrowConverted, NarrowBody, packedRead, packedWritten, packedOffered, packedHanded}
 
 -- ---- a conversion
 

@@ -1,10 +1,10 @@
 -- The answer of convert::convert is packed; each of its parts fits the bits that it has.
 use mathlib.Core.Path.{ap, _∙_}
 use borrow.Author.Needs.{needs}
-use Rattle.host.proofs.Packing.{convert-narrow}
-use Rattle.host.specs.Packed.{packedConverted}
-use Rattle.host.proofs.stuiverhaag_convert.Statement.{statement}
-use Rattle.host.proofs.stuiverhaag_convert.Tie as tie
+use Rattle.stuiverhaag.proofs.Packing.{convert-narrow}
+use Rattle.stuiverhaag.specs.Packed.{packedConverted}
+use Rattle.stuiverhaag.proofs.stuiverhaag_convert.Statement.{statement}
+use Rattle.stuiverhaag.proofs.stuiverhaag_convert.Tie as tie
 
 convert-requires : tie.Need-convert-requires
 convert-requires c κs = search needs

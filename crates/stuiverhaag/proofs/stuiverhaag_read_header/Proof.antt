@@ -1,10 +1,10 @@
 -- The answer of header::read_header is packed where its parts are taken, and else it is its number.
 use mathlib.Core.Path.{ap, _∙_}
 use borrow.Author.Needs.{needs}
-use Rattle.host.proofs.Packing.{read-narrow, read-taken, read-refused}
-use Rattle.host.specs.Packed.{packedRead}
-use Rattle.host.proofs.stuiverhaag_read_header.Statement.{statement}
-use Rattle.host.proofs.stuiverhaag_read_header.Tie as tie
+use Rattle.stuiverhaag.proofs.Packing.{read-narrow, read-taken, read-refused}
+use Rattle.stuiverhaag.specs.Packed.{packedRead}
+use Rattle.stuiverhaag.proofs.stuiverhaag_read_header.Statement.{statement}
+use Rattle.stuiverhaag.proofs.stuiverhaag_read_header.Tie as tie
 
 read-header-requires : tie.Need-read-header-requires
 read-header-requires c κs = search needs

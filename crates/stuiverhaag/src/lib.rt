@@ -11,7 +11,7 @@ ghost use Rattle.header.specs.Header.{readOf, writeOf, writeBytes};
 ghost use Rattle.convert.specs.Convert.{convertOf, answerOf};
 ghost use Rattle.board.specs.Calls.{handOf};
 ghost use Rattle.offers.specs.Offer.{offerOf};
-ghost use Rattle.host.specs.Packed.{bit28, packedConverted, NarrowConverted, packedBody, NarrowBody, packedRead, packedWritten, packedOffered, packedHanded};
+ghost use Rattle.stuiverhaag.specs.Packed.{bit28, packedConverted, NarrowConverted, packedBody, NarrowBody, packedRead, packedWritten, packedOffered, packedHanded};
 
 // What a bit counts.
 const BIT8: u64 = 256;

@@ -3,10 +3,10 @@ use Prim.Native.Nat.{_≤_}
 use mathlib.Core.Path.{ap}
 use native.Mathlib.Omega.{arith}
 use borrow.Author.Needs.{needs}
-use Rattle.host.proofs.Packing.{write-narrow}
-use Rattle.host.specs.Packed.{packedWritten}
-use Rattle.host.proofs.stuiverhaag_write_header.Statement.{statement}
-use Rattle.host.proofs.stuiverhaag_write_header.Tie as tie
+use Rattle.stuiverhaag.proofs.Packing.{write-narrow}
+use Rattle.stuiverhaag.specs.Packed.{packedWritten}
+use Rattle.stuiverhaag.proofs.stuiverhaag_write_header.Statement.{statement}
+use Rattle.stuiverhaag.proofs.stuiverhaag_write_header.Tie as tie
 
 short : (c : tie.After-write-asked) → c .write-asked .result .len ≤ 252
 short c = write-narrow _ _ (c .write-asked .result) (c .write-asked .ensures .0)

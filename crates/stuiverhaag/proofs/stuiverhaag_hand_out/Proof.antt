@@ -1,9 +1,9 @@
 -- The answer is packed; its parts fit the bits that they have.
 use mathlib.Core.Path.{ap}
-use Rattle.host.specs.Packed.{packedHanded}
+use Rattle.stuiverhaag.specs.Packed.{packedHanded}
 use borrow.Author.Needs.{needs}
-use Rattle.host.proofs.stuiverhaag_hand_out.Statement.{statement}
-use Rattle.host.proofs.stuiverhaag_hand_out.Tie as tie
+use Rattle.stuiverhaag.proofs.stuiverhaag_hand_out.Statement.{statement}
+use Rattle.stuiverhaag.proofs.stuiverhaag_hand_out.Tie as tie
 
 hand-out-requires : tie.Need-hand-out-requires
 hand-out-requires c κs = search needs
