@@ -1,4 +1,10 @@
 // Answers case lines: one line on standard output for each line on standard input.
+mod board_lines;
+mod convert_lines;
+mod header_lines;
+mod lines;
+mod message_lines;
+
 use libc::STDIN_FILENO;
 use libc::STDOUT_FILENO;
 

@@ -6,8 +6,7 @@ ghost use Prim.Native.Nat.{_+_, _≤_, _<_};
 ghost use lib.ListN.{length};
 ghost use lib.Seq.{sets};
 ghost use lib.Signed.{mag};
-ghost use Rattle.octets.specs.Bytes.{part};
-ghost use Rattle.clock.specs.Calendar.{leap, yearDays, monthDays, daysBefore, daysTo};
+ghost use Rattle.clock.specs.Calendar.{leap, monthDays, daysBefore, daysTo};
 ghost use Rattle.clock.specs.Time.{reads, dateTests, dateOf, minutesTests, minutesOf, secondTests, secondOf, isSign, zoneTests, signed, since2000, utc, span, within, timeOf, isTime, instantIn};
 ghost use Rattle.clock.specs.Period.{periodOf};
 ghost use Rattle.clock.specs.Stamp.{yearDayOf, stampOf};
@@ -45,16 +44,6 @@ pub fn is_leap(year: u32) -> bool
         return true;
     }
     year % 400 == 0
-}
-
-// The days of a year.
-pub fn year_days(year: u32) -> u32
-    ensures { λ r. ⌜ r ≡ yearDays year ⌝ }
-{
-    if is_leap(year) {
-        return 366;
-    }
-    365
 }
 
 const BEFORE: [u32; 13] = [0, 31, 59, 90, 120, 151, 181, 212, 243, 273, 304, 334, 365];
@@ -239,20 +228,6 @@ pub fn instant(t: &[u8]) -> Time
     };
     let offset = with_sign(t[19], behind);
     in_span(to_utc(since_2000(days, seconds), offset))
-}
-
-// The instant of a time in the n bytes from `at`, or as many as there are.
-pub fn instant_at(s: &[u8], at: usize, n: usize) -> Time
-    ensures { λ r. ⌜ r ≡ timeOf (part (now (s .entry)) at n) ⌝ }
-{
-    if s.len() < at {
-        return Time::Bad;
-    }
-    if s.len() - at < n {
-        return instant(&s[at..]);
-    }
-    let end = at + n;
-    instant(&s[at..end])
 }
 
 pub fn is_time(t: Time) -> bool

@@ -3,7 +3,7 @@ use Prim.Native.Nat.{ℕ, _≤_}
 use mathlib.Core.Path.{_≡_}
 use mathlib.Core.Bool.{Bool, true, false, _&&_, not}
 use mathlib.Core.List.{List, [], _∷_}
-use lib.ListN.{length, getD}
+use lib.ListN.{length}
 use lib.Dec.{eqb, leb}
 use Rattle.octets.specs.Bytes.{pick, every, holds}
 use Rattle.octets.specs.Text.{bytes}
@@ -11,7 +11,7 @@ use Rattle.values.specs.Value.{valueAt}
 use Rattle.parts.specs.Parts.{bodyOk, stationOk}
 use Rattle.parts.specs.declared.Body.{Body}
 use Rattle.header.specs.Header.{headerBytes}
-use Rattle.reads.specs.Leaves.{blank}
+use Rattle.reads.specs.Leaves.{senderNameLeaf, descriptionLeaf, instructionLeaf}
 use Rattle.reads.specs.Steps.{says}
 use Rattle.reads.specs.declared.Audio.{Audio}
 use Rattle.reads.specs.declared.Info.{Info}
@@ -39,15 +39,11 @@ nothing = record { header = []; text = []; audio = 0; uri = []; carry = false }
 abbrev pub headerIn : List ℕ → Body → List ℕ
 headerIn station b = headerBytes (record { body = b; station = station })
 
--- the value of the selected info's leaf: 2 senderName, 3 description, 4 instruction
-abbrev pub infoValue : List ℕ → Info → ℕ → List ℕ
-infoValue s i k = valueAt s (getD (i .leaf) k (blank 0) .at)
-
 -- the sentence of the header's parts, the first EASText, senderName, description, instruction
 unfoldable pub textIn : List ℕ → Judged → List ℕ
 textIn s j =
     let i = infoIn (j .message) in
-    textOf (sentenceOf (j .body)) (valueAt s (i .parameters .text .at)) (infoValue s i 2) (infoValue s i 3) (infoValue s i 4)
+    textOf (sentenceOf (j .body)) (valueAt s (i .parameters .text .at)) (valueAt s (senderNameLeaf i .at)) (valueAt s (descriptionLeaf i .at)) (valueAt s (instructionLeaf i .at))
 
 -- the uri of the audio choice; none without audio
 unfoldable pub uriIn : List ℕ → Audio → List ℕ

@@ -80,9 +80,9 @@ fn put_text(s: &[u8], j: Judged, out: &mut [u8]) -> usize
     let i = a.info;
     let parameters = i.parameters;
     let eas = parameters.text;
-    let sender = i.leaf[2];
-    let description = i.leaf[3];
-    let instruction = i.leaf[4];
+    let sender = i.leaf[reads::SENDER_NAME];
+    let description = i.leaf[reads::DESCRIPTION];
+    let instruction = i.leaf[reads::INSTRUCTION];
     wording::write_text(
         s,
         body,

@@ -5,27 +5,29 @@
 --     message-faultless    and then no field is at fault
 use Prim.Native.Nat.{ℕ}
 use mathlib.Core.Path.{_≡_, refl, sym, ap, _∙_}
-use mathlib.Core.Bool.{Bool, true, false, _&&_, not, or-false}
+use mathlib.Core.Bool.{Bool, true, false, _&&_, or-false}
 use mathlib.Core.List.{List, [], _∷_}
 use native.Mathlib.Omega.{arith}
 use borrow.Author.Tests.{eqb-true, not-false}
-use lib.Dec.{eqb, leb}
+use lib.Dec.{eqb}
 use lib.ListN.{length, drop}
 use Rattle.octets.specs.Bytes.{pick, every, between, same}
 use Rattle.octets.specs.Text.{bytes}
 use Rattle.octets.proofs.Tests.{either-way}
-use Rattle.fields.specs.Fields.{statuses, msgTypes, scopes}
+use Rattle.fields.specs.Fields.{statuses, scopes, msgTypeIn}
 use Rattle.markup.specs.Tree.{One, one, none}
 use Rattle.markup.specs.Document.{docAt}
 use Rattle.gather.specs.Read.{alertOf}
-use Rattle.message.specs.Judged.{leafAt, statusOf, msgTypeOf, scopeOf, fieldOf, asksReferences, numberWith}
+use Rattle.reads.specs.Leaves.{referencesLeaf}
+use Rattle.message.specs.Judged.{statusOf, msgTypeOf, scopeOf, isAckOrError, asksReferences, isCancel, fieldOf, numberWith}
 use Rattle.message.specs.Message.{refusedAs, judged, passed, ofRoot, messageOf}
 use Rattle.message.specs.declared.Message.{Message}
 use Rattle.told.specs.Values.{is, isOne}
 use Rattle.demands.specs.Message.{prefixIn, contentIn, prefix, alert, status, msgType, scope, sentSeconds}
-use Rattle.demands.specs.Numbers.{row, lowestIn, noneApplies, isRead, rootIs, fieldRows, fieldBeside, messageRows}
+use Rattle.demands.specs.Numbers.{lowestIn, noneApplies, isRead, rootIs, fieldRows, fieldBeside, messageRows}
 use Rattle.demands.proofs.Rows.{held, held-when, at-pick, pick-same, none-lowest, none-test, each-off}
-use Rattle.demands.proofs.Fields.{timed-is, referenced-is, place-test, alert-real, read, field-is, Faultless, faultless}
+use Rattle.demands.proofs.MsgTypes.{ack-or-error-is, asks-references-is, cancel-is}
+use Rattle.demands.proofs.Fields.{timed-is, referenced-is, typed-once, place-test, alert-real, read, field-is, Faultless, faultless}
 
 -- ---- what is said where no field is at fault
 
@@ -49,30 +51,26 @@ module _ (s : List ℕ) (k : Faultless s) where
       place-test s (prefix s) "scope" (alert s) (alert-real s) (λ (n : ℕ). eqb n 1) refl scopes refl (k .scope-once)
       ∙ or-false (is "Public" (scope s))
 
-  other-said : not (leb (msgTypeOf s (read s)) 3) ≡ isOne ("Ack" ∷ "Error" ∷ []) (msgType s)
-  unfolding alertOf same bytes
-  other-said = place-test s (prefix s) "msgType" (alert s) (alert-real s) (λ (n : ℕ). not (leb n 3)) refl msgTypes refl (k .type-once)
+  type-said : msgTypeOf s (read s) ≡ msgTypeIn (msgType s)
+  unfolding alertOf
+  type-said = typed-once s (prefix s) "msgType" (alert s) (alert-real s) (k .type-once)
+
+  other-said : isAckOrError (msgTypeOf s (read s)) ≡ isOne ("Ack" ∷ "Error" ∷ []) (msgType s)
+  other-said = ap isAckOrError type-said ∙ ack-or-error-is (msgType s)
 
   pub naming-said : asksReferences (msgTypeOf s (read s)) ≡ isOne ("Update" ∷ "Cancel" ∷ []) (msgType s)
-  unfolding alertOf same bytes
-  naming-said = place-test s (prefix s) "msgType" (alert s) (alert-real s) asksReferences refl msgTypes refl (k .type-once)
+  naming-said = ap asksReferences type-said ∙ asks-references-is (msgType s)
 
-  pub cancel-said : eqb (msgTypeOf s (read s)) 3 ≡ is "Cancel" (msgType s)
-  unfolding alertOf same bytes
-  cancel-said =
-      place-test s (prefix s) "msgType" (alert s) (alert-real s) (λ (n : ℕ). eqb n 3) refl msgTypes refl (k .type-once)
-      ∙ or-false (is "Cancel" (msgType s))
+  pub cancel-said : isCancel (msgTypeOf s (read s)) ≡ is "Cancel" (msgType s)
+  cancel-said = ap isCancel type-said ∙ cancel-is (msgType s)
 
   -- 8 to 10
-  passing-number : numberWith s 0 (statusOf s (read s)) (scopeOf s (read s)) (msgTypeOf s (read s)) (leafAt 6 (read s)) ≡ lowestIn (drop 4 (messageRows s))
+  passing-number : numberWith s 0 (statusOf s (read s)) (scopeOf s (read s)) (msgTypeOf s (read s)) (referencesLeaf (read s)) ≡ lowestIn (drop 4 (messageRows s))
   unfolding alertOf numberWith lowestIn
   passing-number =
-      let kind = msgTypeOf s (read s) in
-      let rows = messageRows s in
       rw (status-said, scope-said)
-      (held (is "Actual" (status s) && is "Public" (scope s)) 8 _ (drop 5 rows)
-      (held (leb kind 3) 9 _ (drop 6 rows) (rw (naming-said, referenced-is s (prefix s) "references" (alert s) (alert-real s)))
-      ∙ ap (λ (b : Bool). lowestIn (row 9 b ∷ drop 6 rows)) other-said))
+      (held (is "Actual" (status s) && is "Public" (scope s)) 8 _ (drop 5 (messageRows s))
+      (rw (other-said, naming-said, referenced-is s (prefix s) "references" (alert s) (alert-real s))))
 
 -- ---- 7 to 10
 

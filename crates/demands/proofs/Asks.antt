@@ -11,7 +11,6 @@ use prog.Wp.{Heap}
 use ghost.Atoms.{Atoms}
 use contract.Monad.{Fun, top}
 use Rattle.clock.proofs.instant.Reads as instant
-use Rattle.clock.proofs.instant_at.Reads as instant-at
 use Rattle.clock.proofs.period.Reads as period
 use Rattle.parts.specs.declared.Parts.{Parts}
 use Rattle.header.proofs.read_header.Reads as read-header
@@ -58,9 +57,6 @@ host-hand-out-asks-nothing κs a = tt
 
 pub instant-asks-nothing : (κs : Lifetimes 1) (a : Slices 1) → instant.Asked κs a
 instant-asks-nothing κs a = tt
-
-pub instant-at-asks-nothing : (κs : Lifetimes 1) (a : Lent × (ℕ × (ℕ × Unit {0}))) → instant-at.Asked κs a
-instant-at-asks-nothing κs a = tt
 
 pub period-asks-nothing : (κs : Lifetimes 0) (a : ℕ × Unit {0}) → period.Asked κs a
 period-asks-nothing κs a = tt

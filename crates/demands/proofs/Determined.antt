@@ -17,7 +17,6 @@ use contract.Monad.{Fun, fact, factI, fact-use}
 use denote.Ref.{now}
 use Rattle.clock.specs.declared.Time.{Time}
 use Rattle.clock.proofs.instant.Reads as instant
-use Rattle.clock.proofs.instant_at.Reads as instant-at
 use Rattle.clock.proofs.period.Reads as period
 use Rattle.parts.specs.declared.Parts.{Parts}
 use Rattle.header.specs.declared.Read.{Read}
@@ -63,10 +62,6 @@ one p q = p ∙ sym q
 
 pub instant-determined : (κs : Lifetimes 1) (a x x′ : Slices 1) (r r′ : Time) → instant.Learnt κs a r x → instant.Learnt κs a r′ x′ → r ≡ r′
 instant-determined κs a x x′ r r′ p q = one p q
-
-pub instant-at-determined : (κs : Lifetimes 1) (a x x′ : Lent × (ℕ × (ℕ × Unit {0}))) (r r′ : Time) →
-    instant-at.Learnt κs a r x → instant-at.Learnt κs a r′ x′ → r ≡ r′
-instant-at-determined κs a x x′ r r′ p q = one p q
 
 pub period-determined : (κs : Lifetimes 0) (a x x′ : ℕ × Unit {0}) (r r′ : ℕ) → period.Learnt κs a r x → period.Learnt κs a r′ x′ → r ≡ r′
 period-determined κs a x x′ r r′ p q = one p q

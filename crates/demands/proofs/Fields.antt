@@ -1,6 +1,7 @@
 -- The leaves of the alert of a message s, said on its tree: the fields at fault.
 --     field-is       the field is the lowest of 1 to 7 at fault, and 0 where none is
 --     place-test     a test of the place of a leaf's value among the values that it may have
+--     typed-once     the msgType of a leaf's value
 --     faultless      what holds of the leaves where no field is at fault
 use Prim.Native.Nat.{ℕ}
 use Prim.Native.String.{String}
@@ -13,13 +14,14 @@ use Rattle.clock.specs.Time.{timeOf, isTime}
 use Rattle.clock.specs.declared.Time.{Time}
 use Rattle.fields.specs.Fields as fields
 use Rattle.fields.specs.References.{groupOk, referencesOk}
+use Rattle.fields.specs.declared.MsgType.{MsgType}
 use Rattle.faults.specs.Field.{lowest}
 use Rattle.markup.specs.Tree.{Forest, One, one, none}
 use Rattle.markup.specs.Document.{docAt}
 use Rattle.reads.specs.declared.Alert.{Alert}
 use Rattle.gather.specs.Read.{leafIn, alertOf}
 use Rattle.leaves.proofs.Reals.{AllReal, leaf-is}
-use Rattle.message.specs.Judged.{identified, timed, valued, infoOk, fieldOf, referenced}
+use Rattle.message.specs.Judged.{identified, timed, valued, typed, isUnknown, infoOk, fieldOf, referenced}
 use Rattle.told.specs.Values.{isOne, valueOf, once, infoSound, languagesSound}
 use Rattle.told.proofs.Leaves.{leaf-once, leaf-value}
 use Rattle.told.proofs.Alerts.{info-sound, selected-tells, selected-real, languages-fault}
@@ -27,6 +29,7 @@ use Rattle.demands.specs.Message.{contentIn, prefix, alert, info, sent}
 use Rattle.demands.specs.Numbers.{row, lowestIn, noneApplies, isIdentity, areGroups, fieldRows}
 use Rattle.demands.proofs.Rows.{none-lowest, each-off}
 use Rattle.demands.proofs.Indices.{distinct, placesPass, index-test, index-none}
+use Rattle.demands.proofs.MsgTypes.{msgTypes, unknown-is}
 
 -- ---- one leaf
 
@@ -53,6 +56,20 @@ module _ (s p : List ℕ) (w : String) (t : Forest) (r : AllReal s t) where
       go : (b : Bool) → eqb (pick b (fields.indexIn ws (valueOf s p w t)) 0) 0 ≡ not (b && isOne ws (valueOf s p w t))
       go true = index-none ws (valueOf s p w t)
       go false = refl
+
+  typed-is : typed s (leafIn s p w t) ≡ pick (once s p w t) (fields.msgTypeIn (valueOf s p w t)) MsgType.Unknown
+  unfolding typed
+  typed-is = rw (leaf-once s p w t r, leaf-value s p w t r)
+
+  untyped-is : isUnknown (typed s (leafIn s p w t)) ≡ not (once s p w t && isOne msgTypes (valueOf s p w t))
+  untyped-is = rw typed-is (go (once s p w t))
+    where
+      go : (b : Bool) → isUnknown (pick b (fields.msgTypeIn (valueOf s p w t)) MsgType.Unknown) ≡ not (b && isOne msgTypes (valueOf s p w t))
+      go true = unknown-is (valueOf s p w t)
+      go false = refl
+
+  pub typed-once : once s p w t ≡ true → typed s (leafIn s p w t) ≡ fields.msgTypeIn (valueOf s p w t)
+  typed-once o = rw (typed-is, o)
 
   pub place-test : (f : ℕ → Bool) → f 0 ≡ false → (ws : List String) → distinct ws ≡ true → once s p w t ≡ true →
       f (valued s ws (leafIn s p w t)) ≡ isOne (placesPass f ws) (valueOf s p w t)
@@ -114,7 +131,7 @@ module _ (s : List ℕ) where
         timed-is s p "sent" t r,
         time-read (once s p "sent" t) (timeOf (sent s)),
         unvalued-is s p "status" t r fields.statuses,
-        unvalued-is s p "msgType" t r fields.msgTypes,
+        untyped-is s p "msgType" t r,
         unvalued-is s p "scope" t r fields.scopes,
         others-faulty,
       )

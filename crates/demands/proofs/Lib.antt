@@ -1,5 +1,6 @@
 pub mod Rows
 pub mod Indices
+pub mod MsgTypes
 pub mod Fields
 pub mod Alerts
 pub mod Infos

@@ -6,25 +6,19 @@ ghost use Rattle.octets.specs.Bytes.{pick};
 ghost use Rattle.faults.specs.Field.{bitsOf, lowest};
 
 // The bit of each field.
-pub struct Fault {
-    pub bits: u32,
-}
+const IDENTIFIER: u32 = 1;
 
-impl Fault {
-    pub const IDENTIFIER: u32 = 1;
+const SENDER: u32 = 2;
 
-    pub const SENDER: u32 = 2;
+const SENT: u32 = 4;
 
-    pub const SENT: u32 = 4;
+const STATUS: u32 = 8;
 
-    pub const STATUS: u32 = 8;
+const MSG_TYPE: u32 = 16;
 
-    pub const MSG_TYPE: u32 = 16;
+const SCOPE: u32 = 32;
 
-    pub const SCOPE: u32 = 32;
-
-    pub const OTHER: u32 = 64;
-}
+const OTHER: u32 = 64;
 
 // One fault is noted, or not.
 pub fn noted(bits: u32, bad: bool, mask: u32) -> u32
@@ -39,19 +33,19 @@ pub fn gathered(
     sender: bool,
     sent: bool,
     status: bool,
-    kind: bool,
+    msg_type: bool,
     scope: bool,
     other: bool,
 ) -> u32
-    ensures { λ r. ⌜ r ≡ bitsOf (identifier ∷ sender ∷ sent ∷ status ∷ kind ∷ scope ∷ other ∷ []) ⌝ }
+    ensures { λ r. ⌜ r ≡ bitsOf (identifier ∷ sender ∷ sent ∷ status ∷ «msg_type» ∷ scope ∷ other ∷ []) ⌝ }
 {
-    let b1 = noted(0, identifier, Fault::IDENTIFIER);
-    let b2 = noted(b1, sender, Fault::SENDER);
-    let b3 = noted(b2, sent, Fault::SENT);
-    let b4 = noted(b3, status, Fault::STATUS);
-    let b5 = noted(b4, kind, Fault::MSG_TYPE);
-    let b6 = noted(b5, scope, Fault::SCOPE);
-    noted(b6, other, Fault::OTHER)
+    let b1 = noted(0, identifier, IDENTIFIER);
+    let b2 = noted(b1, sender, SENDER);
+    let b3 = noted(b2, sent, SENT);
+    let b4 = noted(b3, status, STATUS);
+    let b5 = noted(b4, msg_type, MSG_TYPE);
+    let b6 = noted(b5, scope, SCOPE);
+    noted(b6, other, OTHER)
 }
 
 // The field: the lowest of 1 to 6 at fault, else 7; 0 where none is.
@@ -60,13 +54,13 @@ pub fn field(
     sender: bool,
     sent: bool,
     status: bool,
-    kind: bool,
+    msg_type: bool,
     scope: bool,
     other: bool,
 ) -> u32
-    ensures { λ r. ⌜ r ≡ lowest (identifier ∷ sender ∷ sent ∷ status ∷ kind ∷ scope ∷ other ∷ []) ⌝ }
+    ensures { λ r. ⌜ r ≡ lowest (identifier ∷ sender ∷ sent ∷ status ∷ «msg_type» ∷ scope ∷ other ∷ []) ⌝ }
 {
-    let bits = gathered(identifier, sender, sent, status, kind, scope, other);
+    let bits = gathered(identifier, sender, sent, status, msg_type, scope, other);
     if bits == 0 {
         return 0;
     }

@@ -1,6 +1,7 @@
 pub mod Buffers
 pub mod Identities
 pub mod Names
+pub mod Places
 pub mod Partings
 pub mod Groups
 pub mod Words

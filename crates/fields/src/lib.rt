@@ -8,7 +8,7 @@ ghost use lib.ListN.{length, drop};
 ghost use lib.Seq.{sets};
 ghost use Rattle.clock.specs.Time.{timeOf};
 ghost use Rattle.values.specs.Value.{valueAt};
-ghost use Rattle.fields.specs.Fields.{isIdentity, identityOk, indexIn, statuses, msgTypes, scopes};
+ghost use Rattle.fields.specs.Fields.{isIdentity, identityOk, indexIn, statuses, scopes, msgTypeIn};
 ghost use Rattle.fields.specs.References.{upTo, groupOk, referencesOk};
 ghost use Rattle.fields.specs.Words.{wordIn, wordAt};
 
@@ -17,6 +17,16 @@ pub struct Word {
     pub len: usize,
     pub next: usize,
     pub more: bool,
+}
+
+// The msgTypes of CAP 1.2; Unknown where the value is none of them, or there is no such leaf.
+pub enum MsgType {
+    Unknown,
+    Alert,
+    Update,
+    Cancel,
+    Ack,
+    Error,
 }
 
 // ---- sender and identifier
@@ -74,46 +84,19 @@ pub fn time_at(s: &[u8], at: usize) -> Time
     clock::instant(&b[0..n])
 }
 
-// ---- the values of CAP 1.2, counted from 1; 0 for any other
+// ---- status and scope: the values of CAP 1.2, counted from 1; 0 for any other
 
 pub fn status_at(s: &[u8], at: usize) -> u32
     ensures { λ r. ⌜ r ≡ indexIn statuses (valueAt (now (s .entry)) at) ⌝ }
 {
-    if values::equal(s, at, b"Actual") {
-        return 1;
-    }
-    if values::equal(s, at, b"Exercise") {
-        return 2;
-    }
-    if values::equal(s, at, b"System") {
-        return 3;
-    }
-    if values::equal(s, at, b"Test") {
-        return 4;
-    }
-    if values::equal(s, at, b"Draft") {
-        return 5;
-    }
-    0
-}
-
-pub fn msg_type_at(s: &[u8], at: usize) -> u32
-    ensures { λ r. ⌜ r ≡ indexIn msgTypes (valueAt (now (s .entry)) at) ⌝ }
-{
-    if values::equal(s, at, b"Alert") {
-        return 1;
-    }
-    if values::equal(s, at, b"Update") {
-        return 2;
-    }
-    if values::equal(s, at, b"Cancel") {
-        return 3;
-    }
-    if values::equal(s, at, b"Ack") {
-        return 4;
-    }
-    if values::equal(s, at, b"Error") {
-        return 5;
+    let k = words::which_value(
+        s,
+        at,
+        b"\x06\x08\x06\x04\x05",
+        b"ActualExerciseSystemTestDraft",
+    );
+    if k < 5 {
+        return k as u32 + 1;
     }
     0
 }
@@ -121,16 +104,34 @@ pub fn msg_type_at(s: &[u8], at: usize) -> u32
 pub fn scope_at(s: &[u8], at: usize) -> u32
     ensures { λ r. ⌜ r ≡ indexIn scopes (valueAt (now (s .entry)) at) ⌝ }
 {
-    if values::equal(s, at, b"Public") {
-        return 1;
-    }
-    if values::equal(s, at, b"Restricted") {
-        return 2;
-    }
-    if values::equal(s, at, b"Private") {
-        return 3;
+    let k = words::which_value(s, at, b"\x06\x0a\x07", b"PublicRestrictedPrivate");
+    if k < 3 {
+        return k as u32 + 1;
     }
     0
+}
+
+// ---- the msgType
+
+pub fn msg_type_at(s: &[u8], at: usize) -> MsgType
+    ensures { λ r. ⌜ r ≡ msgTypeIn (valueAt (now (s .entry)) at) ⌝ }
+{
+    if values::equal(s, at, b"Alert") {
+        return MsgType::Alert;
+    }
+    if values::equal(s, at, b"Update") {
+        return MsgType::Update;
+    }
+    if values::equal(s, at, b"Cancel") {
+        return MsgType::Cancel;
+    }
+    if values::equal(s, at, b"Ack") {
+        return MsgType::Ack;
+    }
+    if values::equal(s, at, b"Error") {
+        return MsgType::Error;
+    }
+    MsgType::Unknown
 }
 
 // ---- a group: sender, identifier and sent, parted by commas

@@ -6,15 +6,16 @@ use mathlib.Core.Path.{_≡_, refl, ap, _∙_}
 use mathlib.Core.Bool.{Bool, true, false, not, _||_}
 use mathlib.Core.List.{List, [], _∷_, foldl}
 use lib.ListN.{length}
-use lib.Dec.{eqb}
 use Rattle.octets.specs.Bytes.{pick, same}
 use Rattle.octets.specs.Text.{bytes}
 use Rattle.markup.specs.Tree.{Tag, Forest, nil, text, elem}
 use Rattle.reads.specs.Leaves.{blank, soundOf, noInfo, fresh}
-use Rattle.reads.specs.Steps.{english, infoStep, laterStep}
-use Rattle.reads.specs.Names.{among, inside, inAlert}
+use Rattle.reads.specs.Steps.{english, isNothing, infoStep, laterStep}
+use Rattle.reads.specs.Names.{infoInside, among, inside, inAlert}
 use Rattle.reads.specs.declared.Leaf.{Leaf}
 use Rattle.reads.specs.declared.Alert.{Alert}
+use Rattle.reads.specs.declared.Kept.{Kept}
+use Rattle.reads.specs.declared.Kept.the-variants.{Nothing, First, Selected}
 use Rattle.reads.specs.declared.State.{State}
 use Rattle.reads.specs.declared.Context.{Context}
 use Rattle.reads.specs.declared.Context.the-variants as ctx
@@ -22,15 +23,15 @@ use Rattle.gather.specs.Visit.{touchIn, left, within, visit}
 use Rattle.gather.specs.Read.{nameIn, named, placeIn, added, addedAll, leafIn, infoOf, alertOf}
 use Rattle.gather.proofs.Leaves.{state, el, blanks, Match, here, later, none, match, alert-leaf, step, passes}
 use Rattle.gather.proofs.Infos.{info-ends, in-later}
-use Rattle.gather.proofs.Selects.{Kept, keptAs, keepStep, kept-is}
+use Rattle.gather.proofs.Selects.{Keeping, keptAs, isSelected, keepStep, kept-is}
 
 -- an alert of these leaves, and the info that is kept
-abbrev alert : Leaf → Leaf → Leaf → Leaf → Leaf → Leaf → Leaf → Kept → Alert
+abbrev alert : Leaf → Leaf → Leaf → Leaf → Leaf → Leaf → Leaf → Keeping → Alert
 alert y₀ y₁ y₂ y₃ y₄ y₅ y₆ k = record { leaf = y₀ ∷ y₁ ∷ y₂ ∷ y₃ ∷ y₄ ∷ y₅ ∷ y₆ ∷ []; kept = k .kept; info = k .info; fault = k .fault }
 
 module _ (s p : List ℕ) where
   -- the content of an alert
-  abbrev all : Forest → Leaf → Leaf → Leaf → Leaf → Leaf → Leaf → Leaf → Kept → State
+  abbrev all : Forest → Leaf → Leaf → Leaf → Leaf → Leaf → Leaf → Leaf → Keeping → State
   all t y₀ y₁ y₂ y₃ y₄ y₅ y₆ k = state (alert
       (addedAll s y₀ (named s p "identifier" t))
       (addedAll s y₁ (named s p "sender" t))
@@ -42,9 +43,9 @@ module _ (s p : List ℕ) where
       (foldl (keepStep s p) k (named s p "info" t))) (noInfo (length s)) (blanks s)
 
   abbrev Gathers : Forest → Type 0
-  Gathers t = (y₀ y₁ y₂ y₃ y₄ y₅ y₆ : Leaf) (k : Kept) → visit s p ctx.Alert (state (alert y₀ y₁ y₂ y₃ y₄ y₅ y₆ k) (noInfo (length s)) (blanks s)) t ≡ all t y₀ y₁ y₂ y₃ y₄ y₅ y₆ k
+  Gathers t = (y₀ y₁ y₂ y₃ y₄ y₅ y₆ : Leaf) (k : Keeping) → visit s p ctx.Alert (state (alert y₀ y₁ y₂ y₃ y₄ y₅ y₆ k) (noInfo (length s)) (blanks s)) t ≡ all t y₀ y₁ y₂ y₃ y₄ y₅ y₆ k
 
-  module _ (g : Tag) (kids rest : Forest) (ih : Gathers rest) (y₀ y₁ y₂ y₃ y₄ y₅ y₆ : Leaf) (k : Kept) where
+  module _ (g : Tag) (kids rest : Forest) (ih : Gathers rest) (y₀ y₁ y₂ y₃ y₄ y₅ y₆ : Leaf) (k : Keeping) where
     abbrev at-alert : State
     at-alert = state (alert y₀ y₁ y₂ y₃ y₄ y₅ y₆ k) (noInfo (length s)) (blanks s)
 
@@ -85,30 +86,37 @@ module _ (s p : List ℕ) where
     on-references e = rw e (on (ctx.AlertLeaf 6) (state (alert y₀ y₁ y₂ y₃ y₄ y₅ (added s y₆ (el g kids)) k) (noInfo (length s)) (blanks s)) (rw e) (alert-leaf s p 6 (alert y₀ y₁ y₂ y₃ y₄ y₅ y₆ k) (noInfo (length s)) (blanks s) g kids) ∙ ih y₀ y₁ y₂ y₃ y₄ y₅ (added s y₆ (el g kids)) k)
 
     -- an info, before one is selected and after
-    info-first : eqb (k .kept) 2 ≡ false → infoStep s (alert y₀ y₁ y₂ y₃ y₄ y₅ y₆ k) (infoOf s p kids) ≡ alert y₀ y₁ y₂ y₃ y₄ y₅ y₆ (keepStep s p k (el g kids))
+    info-first : isSelected (k .kept) ≡ false → infoStep s (alert y₀ y₁ y₂ y₃ y₄ y₅ y₆ k) (infoOf s p kids) ≡ alert y₀ y₁ y₂ y₃ y₄ y₅ y₆ (keepStep s p k (el g kids))
     unfolding infoStep infoOf
-    info-first e = rw e (go (english s (leafIn s p "language" kids)) (eqb (k .kept) 0))
+    info-first e = rw e (go (english s (leafIn s p "language" kids)) (isNothing (k .kept)))
       where
         f : Bool
         f = k .fault || not (soundOf (leafIn s p "language" kids))
 
         go : (b d : Bool) →
-            pick b (record { leaf = alert y₀ y₁ y₂ y₃ y₄ y₅ y₆ k .leaf; kept = 2; info = infoOf s p kids; fault = f })
-            (pick d (record { leaf = alert y₀ y₁ y₂ y₃ y₄ y₅ y₆ k .leaf; kept = 1; info = infoOf s p kids; fault = f }) (record { leaf = alert y₀ y₁ y₂ y₃ y₄ y₅ y₆ k .leaf; kept = k .kept; info = k .info; fault = f }))
-            ≡ alert y₀ y₁ y₂ y₃ y₄ y₅ y₆ (pick b (record { kept = 2; info = infoOf s p kids; fault = f }) (pick d (record { kept = 1; info = infoOf s p kids; fault = f }) (record { kept = k .kept; info = k .info; fault = f })))
+            pick b (record { leaf = alert y₀ y₁ y₂ y₃ y₄ y₅ y₆ k .leaf; kept = Selected; info = infoOf s p kids; fault = f })
+            (pick d (record { leaf = alert y₀ y₁ y₂ y₃ y₄ y₅ y₆ k .leaf; kept = First; info = infoOf s p kids; fault = f }) (record { leaf = alert y₀ y₁ y₂ y₃ y₄ y₅ y₆ k .leaf; kept = k .kept; info = k .info; fault = f }))
+            ≡ alert y₀ y₁ y₂ y₃ y₄ y₅ y₆ (pick b (record { kept = Selected; info = infoOf s p kids; fault = f }) (pick d (record { kept = First; info = infoOf s p kids; fault = f }) (record { kept = k .kept; info = k .info; fault = f })))
         go true d = refl
         go false true = refl
         go false false = refl
 
     on-info : nameIn s p g ≡ bytes "info" → Goal
     unfolding inside among named same bytes left laterStep
-    on-info e = rw e (go (eqb (k .kept) 2) refl ∙ ih y₀ y₁ y₂ y₃ y₄ y₅ y₆ (keepStep s p k (el g kids)))
+    on-info e = rw e (go (k .kept) refl ∙ ih y₀ y₁ y₂ y₃ y₄ y₅ y₆ (keepStep s p k (el g kids)))
       where
-        go : (b : Bool) → eqb (k .kept) 2 ≡ b → visit s p ctx.Alert at-alert (elem g kids rest) ≡ visit s p ctx.Alert (state (alert y₀ y₁ y₂ y₃ y₄ y₅ y₆ (keepStep s p k (el g kids))) (noInfo (length s)) (blanks s)) rest
-        go true f = on ctx.Later (state (alert y₀ y₁ y₂ y₃ y₄ y₅ y₆ (keepStep s p k (el g kids))) (noInfo (length s)) (blanks s)) (rw (e, f))
-            (rw f (ap (left s ctx.Later (placeIn s g)) (in-later s p (alert y₀ y₁ y₂ y₃ y₄ y₅ y₆ k) (blank (length s)) (blank (length s)) (blank (length s)) (blank (length s)) (noInfo (length s) .events) (noInfo (length s) .parameters) (noInfo (length s) .locations) (noInfo (length s) .audio) kids (blank (length s)))))
-        go false f = on ctx.Info (state (alert y₀ y₁ y₂ y₃ y₄ y₅ y₆ (keepStep s p k (el g kids))) (noInfo (length s)) (blanks s)) (rw (e, f))
+        Goes : Type 0
+        Goes = visit s p ctx.Alert at-alert (elem g kids rest) ≡ visit s p ctx.Alert (state (alert y₀ y₁ y₂ y₃ y₄ y₅ y₆ (keepStep s p k (el g kids))) (noInfo (length s)) (blanks s)) rest
+
+        before : infoInside (k .kept) ≡ ctx.Info → isSelected (k .kept) ≡ false → Goes
+        before n f = on ctx.Info (state (alert y₀ y₁ y₂ y₃ y₄ y₅ y₆ (keepStep s p k (el g kids))) (noInfo (length s)) (blanks s)) (rw (e, n))
             (info-ends s p (alert y₀ y₁ y₂ y₃ y₄ y₅ y₆ k) g kids ∙ ap (λ (x : Alert). state x (noInfo (length s)) (blanks s)) (info-first f))
+
+        go : (n : Kept) → k .kept ≡ n → Goes
+        go Nothing f = before (ap infoInside f) (ap isSelected f)
+        go First f = before (ap infoInside f) (ap isSelected f)
+        go Selected f = on ctx.Later (state (alert y₀ y₁ y₂ y₃ y₄ y₅ y₆ (keepStep s p k (el g kids))) (noInfo (length s)) (blanks s)) (rw (e, f))
+            (rw (ap isSelected f) (ap (left s ctx.Later (placeIn s g)) (in-later s p (alert y₀ y₁ y₂ y₃ y₄ y₅ y₆ k) (blank (length s)) (blank (length s)) (blank (length s)) (blank (length s)) (noInfo (length s) .events) (noInfo (length s) .parameters) (noInfo (length s) .locations) (noInfo (length s) .audio) kids (blank (length s)))))
 
     on-name : Match (nameIn s p g) (inAlert (k .kept)) → Goal
     unfolding inside among named touchIn
@@ -132,5 +140,5 @@ module _ (s p : List ℕ) where
   pub gathers : (t : Forest) → visit s p ctx.Alert (fresh (length s)) t ≡ state (alertOf s p t) (noInfo (length s)) (blanks s)
   unfolding alertOf
   gathers t =
-      in-alert t (blank (length s)) (blank (length s)) (blank (length s)) (blank (length s)) (blank (length s)) (blank (length s)) (blank (length s)) (keptAs 0 (noInfo (length s)) false)
-      ∙ ap (λ (k : Kept). state (alert (leafIn s p "identifier" t) (leafIn s p "sender" t) (leafIn s p "sent" t) (leafIn s p "status" t) (leafIn s p "msgType" t) (leafIn s p "scope" t) (leafIn s p "references" t) k) (noInfo (length s)) (blanks s)) (kept-is s p (named s p "info" t))
+      in-alert t (blank (length s)) (blank (length s)) (blank (length s)) (blank (length s)) (blank (length s)) (blank (length s)) (blank (length s)) (keptAs Nothing (noInfo (length s)) false)
+      ∙ ap (λ (k : Keeping). state (alert (leafIn s p "identifier" t) (leafIn s p "sender" t) (leafIn s p "sent" t) (leafIn s p "status" t) (leafIn s p "msgType" t) (leafIn s p "scope" t) (leafIn s p "references" t) k) (noInfo (length s)) (blanks s)) (kept-is s p (named s p "info" t))

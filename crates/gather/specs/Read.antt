@@ -17,6 +17,8 @@ use Rattle.reads.specs.declared.Locations.{Locations}
 use Rattle.reads.specs.declared.Audio.{Audio}
 use Rattle.reads.specs.declared.Info.{Info}
 use Rattle.reads.specs.declared.Alert.{Alert}
+use Rattle.reads.specs.declared.Kept.{Kept}
+use Rattle.reads.specs.declared.Kept.the-variants.{Nothing, First, Selected}
 use Rattle.gather.specs.Visit.{placeOf}
 
 -- ---- elements
@@ -102,11 +104,11 @@ unfoldable pub fromEnglish : List ℕ → List ℕ → List Element → List Ele
 fromEnglish s p [] = []
 fromEnglish s p (e ∷ es) = pick (english s (languageIn s p e)) (e ∷ es) (fromEnglish s p es)
 
--- it is selected (2); if none, the first is (1); where there is no info, none (0)
-unfoldable pub selection : List Element → List Element → ℕ
-selection [] [] = 0
-selection [] (e ∷ es) = 1
-selection (e ∷ es) all = 2
+-- it is selected; if none, the first is; where there is no info, none
+unfoldable pub selection : List Element → List Element → Kept
+selection [] [] = Nothing
+selection [] (e ∷ es) = First
+selection (e ∷ es) all = Selected
 
 unfoldable pub selected : List ℕ → List ℕ → List Element → List Element → Info
 selected s p [] [] = noInfo (length s)

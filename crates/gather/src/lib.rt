@@ -262,6 +262,8 @@ fn read_element(s: &[u8], p: &[u8], at: usize, depth: usize, c: Context, st: Sta
             state: st,
         };
     }
+    let alert = st.alert;
+    let kept = alert.kept;
     let o = tags::open_tag(s, at);
     match o {
         Open::Shut => Got {
@@ -269,7 +271,7 @@ fn read_element(s: &[u8], p: &[u8], at: usize, depth: usize, c: Context, st: Sta
             state: st,
         },
         Open::Empty(a, j) => {
-            let k = reads::context_of(s, p, at + 1, a, c, st.alert.kept);
+            let k = reads::context_of(s, p, at + 1, a, c, kept);
             let t = touch_leaf(c, Touch::Holds, st);
             Got {
                 end: End::At(j),
@@ -277,7 +279,7 @@ fn read_element(s: &[u8], p: &[u8], at: usize, depth: usize, c: Context, st: Sta
             }
         }
         Open::Full(a, j) => {
-            let k = reads::context_of(s, p, at + 1, a, c, st.alert.kept);
+            let k = reads::context_of(s, p, at + 1, a, c, kept);
             let t = touch_leaf(c, Touch::Holds, st);
             let g = read_content(s, p, j, depth - 1, k, t);
             let e = g.end;

@@ -2,7 +2,7 @@
 use Prim.Native.Nat.{ℕ, _-_}
 use mathlib.Core.Bool.{Bool, true, false, _&&_, not}
 use mathlib.Core.List.{List, [], _∷_}
-use lib.ListN.{getD, replicate}
+use lib.ListN.{replicate}
 use lib.Dec.{eqb}
 use Rattle.octets.specs.Bytes.{pick, every, holds}
 use Rattle.clock.specs.Time.{timeOf, instantIn}
@@ -12,10 +12,12 @@ use Rattle.parts.specs.Parts.{eventOk}
 use Rattle.parts.specs.declared.Originator.the-variants.{Civ}
 use Rattle.parts.specs.declared.Origin.{Origin}
 use Rattle.parts.specs.declared.Origin.the-variants.{Known}
-use Rattle.reads.specs.Leaves.{blank}
+use Rattle.reads.specs.Leaves.{expiresLeaf}
+use Rattle.reads.specs.Steps.{isNothing}
 use Rattle.reads.specs.declared.Leaf.{Leaf}
 use Rattle.reads.specs.declared.Locations.{Locations}
 use Rattle.reads.specs.declared.Info.{Info}
+use Rattle.message.specs.Judged.{isCancel}
 use Rattle.message.specs.declared.Message.{Message}
 use Rattle.judgement.specs.declared.Event.{Event}
 
@@ -24,7 +26,7 @@ abbrev pub infoIn : Message → Info
 infoIn m = m .alert .info
 
 abbrev pub expiresIn : Message → Leaf
-expiresIn m = getD (infoIn m .leaf) 1 (blank 0)
+expiresIn m = expiresLeaf (infoIn m)
 
 -- EEE: the one eventCode with valueName SAME, three letters A to Z, known or not
 unfoldable pub eventIs : List ℕ → Leaf → Bool
@@ -55,12 +57,12 @@ unplaced l = every holds (not (l .bad) ∷ eqb (l .count) 0 ∷ [])
 -- an info, a SAME eventCode, a SAME geocode and an expires
 abbrev pub complete : Message → List Bool
 complete m =
-    not (eqb (m .alert .kept) 0)
+    not (isNothing (m .alert .kept))
     ∷ not (eqb (infoIn m .events .same .count) 0)
     ∷ not (unplaced (infoIn m .locations))
     ∷ not (eqb (expiresIn m .count) 0)
     ∷ []
 
--- a Cancel (3) with no info, no SAME eventCode, no SAME geocode or no expires is quiet
+-- a Cancel with no info, no SAME eventCode, no SAME geocode or no expires is quiet
 unfoldable pub quietOf : Message → Bool
-quietOf m = eqb (m .kind) 3 && not (every holds (complete m))
+quietOf m = isCancel (m .«msg_type») && not (every holds (complete m))

@@ -1,4 +1,5 @@
 // A message judged up to number 14: quiet Cancels, and the parts of the header that the message gives.
+use fields::MsgType;
 use message::Message;
 use parts::Body;
 use parts::Origin;
@@ -9,6 +10,7 @@ ghost use mathlib.Core.Path.{_≡_};
 ghost use Prim.Native.Nat.{_<_, _-_};
 ghost use Rattle.octets.specs.Bytes.{every, holds};
 ghost use Rattle.clock.specs.Time.{span};
+ghost use Rattle.message.specs.Judged.{isCancel};
 ghost use Rattle.judgement.specs.Rules.{noEvent, eventOf, originOf, located, secondsTo, unplaced, complete, quietOf};
 ghost use Rattle.judgement.specs.Judged.{without, bodyWith, alerted, judgedOf};
 
@@ -111,11 +113,12 @@ fn is_complete(m: Message) -> bool
 {
     let a = m.alert;
     let i = a.info;
+    let kept = a.kept;
     let events = i.events;
     let same = events.same;
     let locations = i.locations;
-    let expires = i.leaf[1];
-    if a.kept == 0 {
+    let expires = i.leaf[reads::EXPIRES];
+    if reads::is_nothing(kept) {
         return false;
     }
     if same.count == 0 {
@@ -127,10 +130,24 @@ fn is_complete(m: Message) -> bool
     expires.count != 0
 }
 
+fn is_cancel(t: MsgType) -> bool
+    ensures { λ r. ⌜ r ≡ isCancel t ⌝ }
+{
+    match t {
+        MsgType::Unknown => false,
+        MsgType::Alert => false,
+        MsgType::Update => false,
+        MsgType::Cancel => true,
+        MsgType::Ack => false,
+        MsgType::Error => false,
+    }
+}
+
 fn is_quiet(m: Message) -> bool
     ensures { λ r. ⌜ r ≡ quietOf m ⌝ }
 {
-    if m.kind != 3 {
+    let t = m.msg_type;
+    if !is_cancel(t) {
         return false;
     }
     !is_complete(m)
@@ -178,7 +195,7 @@ fn alert_of(s: &[u8], m: Message) -> Judged
     let events = i.events;
     let parameters = i.parameters;
     let locations = i.locations;
-    let expires = i.leaf[1];
+    let expires = i.leaf[reads::EXPIRES];
     let event = event_of(s, events.same);
     if !event.ok {
         return no_header(m, 11, false);

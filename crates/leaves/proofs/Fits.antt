@@ -29,7 +29,7 @@ use Rattle.faults.specs.Field.{onward, lowest}
 use Rattle.markup.specs.Tree.{Forest, One, one, none}
 use Rattle.markup.specs.Document.{docAt}
 use Rattle.values.specs.Value.{valueAt, sixDigits}
-use Rattle.reads.specs.Leaves.{soundOf, pairOk, noInfo}
+use Rattle.reads.specs.Leaves.{soundOf, pairOk, noInfo, sentLeaf, referencesLeaf}
 use Rattle.reads.specs.Steps.{says, placed, locationOf, locationStep, audioOf, isAudio, audioStep}
 use Rattle.reads.specs.declared.Leaf.{Leaf}
 use Rattle.reads.specs.declared.Locations.{Locations}
@@ -37,8 +37,9 @@ use Rattle.reads.specs.declared.Audio.{Audio}
 use Rattle.reads.specs.declared.Info.{Info}
 use Rattle.reads.specs.declared.Alert.{Alert}
 use Rattle.gather.specs.Read.{Element, named, leafIn, location, area, resource, infoOf, fromEnglish, selected, alertOf}
+use Rattle.fields.specs.declared.MsgType.{MsgType}
 use Rattle.message.specs.Root.{prefixOf, rootOk}
-use Rattle.message.specs.Judged.{leafAt, onlyOf, timed, statusOf, msgTypeOf, scopeOf, asksReferences, referenced, faultsWith, fieldOf, numberWith}
+use Rattle.message.specs.Judged.{onlyOf, timed, statusOf, msgTypeOf, scopeOf, isAckOrError, asksReferences, referenced, faultsWith, fieldOf, numberWith}
 use Rattle.message.specs.Message.{refusedAs, judged, passed, ofRoot, messageOf}
 use Rattle.message.specs.declared.Message.{Message}
 
@@ -196,7 +197,7 @@ timed-in s l = either-way (λ (t : Time). instantIn t < span) (onlyOf l) _ _ (λ
 
 pub sent-in : (s : List ℕ) → messageOf s .sent < span
 unfolding judged
-sent-in s = message-holds s (λ (m : Message). m .sent < span) (λ n k l. omega arith) (λ p t. timed-in s (leafAt 2 (alertOf s p t)))
+sent-in s = message-holds s (λ (m : Message). m .sent < span) (λ n k l. omega arith) (λ p t. timed-in s (sentLeaf (alertOf s p t)))
 
 -- ---- number and field
 
@@ -213,14 +214,14 @@ record NumberFits (number field : ℕ) : Type 0 where
   pub small : number ≤ 10
   pub seven : (number ≡ 7 → ⊥) → field ≡ 0
 
-number-fits : (s : List ℕ) (field status scope kind : ℕ) (l : Leaf) → NumberFits (numberWith s field status scope kind l) field
+number-fits : (s : List ℕ) (field status scope : ℕ) (t : MsgType) (l : Leaf) → NumberFits (numberWith s field status scope t l) field
 unfolding numberWith
-number-fits s field status scope kind l =
+number-fits s field status scope t l =
     either-way Fit (eqb field 0) _ _
     (λ q. either-way Fit (eqb status 1 && eqb scope 1) _ _
-    (λ x. either-way Fit (leb kind 3) _ _
-    (λ y. either-way Fit (asksReferences kind && not (referenced s l)) _ _ (λ z. beside 10 q (omega arith)) (λ z. beside 0 q (omega arith)))
-    (λ y. beside 9 q (omega arith)))
+    (λ x. either-way Fit (isAckOrError t) _ _
+    (λ y. beside 9 q (omega arith))
+    (λ y. either-way Fit (asksReferences t && not (referenced s l)) _ _ (λ z. beside 10 q (omega arith)) (λ z. beside 0 q (omega arith))))
     (λ x. beside 8 q (omega arith)))
     (λ q. record { small = omega arith; seven = λ n. absurd (n refl) })
   where
@@ -234,13 +235,13 @@ number-holds : (s : List ℕ) → NumberFits (messageOf s .number) (messageOf s 
 unfolding judged
 number-holds s =
     message-holds s (λ (m : Message). NumberFits (m .number) (m .field)) (λ n k l. record { small = omega arith; seven = λ x. refl })
-    (λ p t. let a = alertOf s p t in number-fits s (fieldOf s a) (statusOf s a) (scopeOf s a) (msgTypeOf s a) (leafAt 6 a))
+    (λ p t. let a = alertOf s p t in number-fits s (fieldOf s a) (statusOf s a) (scopeOf s a) (msgTypeOf s a) (referencesLeaf a))
 
 pub number-small : (s : List ℕ) → messageOf s .number ≤ 10
 number-small s = number-holds s .small
 
 field-most : (s : List ℕ) (a : Alert) → fieldOf s a ≤ 7
-field-most s a = lowest-most (faultsWith s a (timed s (leafAt 2 a)) (statusOf s a) (msgTypeOf s a) (scopeOf s a))
+field-most s a = lowest-most (faultsWith s a (timed s (sentLeaf a)) (statusOf s a) (msgTypeOf s a) (scopeOf s a))
 
 pub field-small : (s : List ℕ) → messageOf s .field ≤ 7
 unfolding judged

@@ -7,26 +7,27 @@ use Rattle.octets.specs.Bytes.{pick, between}
 use Rattle.clock.specs.Time.{instantIn}
 use Rattle.markup.specs.Tree.{One, one, none}
 use Rattle.markup.specs.Document.{docAt}
-use Rattle.reads.specs.Leaves.{fresh}
+use Rattle.reads.specs.Leaves.{fresh, sentLeaf}
 use Rattle.reads.specs.declared.Alert.{Alert}
 use Rattle.reads.specs.declared.Context.{Context}
 use Rattle.reads.specs.declared.Context.the-variants.{Root, Skipped}
 use Rattle.gather.specs.Read.{alertOf}
+use Rattle.fields.specs.declared.MsgType.{MsgType}
 use Rattle.message.specs.Root.{prefixOf, rootOk}
-use Rattle.message.specs.Judged.{leafAt, timed, msgTypeOf, fieldOf, numberOf}
+use Rattle.message.specs.Judged.{timed, msgTypeOf, fieldOf, numberOf}
 use Rattle.message.specs.declared.Message.{Message}
 
 -- a refusal returns its number, zeros elsewhere
 abbrev pub refusedAs : ℕ → ℕ → Message
-refusedAs n number = record { number = number; field = 0; kind = 0; sent = 0; alert = fresh n .alert }
+refusedAs n number = record { number = number; field = 0; «msg_type» = MsgType.Unknown; sent = 0; alert = fresh n .alert }
 
--- what is read in an alert, with its number; kind is the msgType's: 1 Alert, 2 Update, 3 Cancel, 4 Ack, 5 Error
+-- what is read in an alert, with its number
 unfoldable pub judged : List ℕ → Alert → Message
 judged s a = record {
   number = numberOf s a;
   field = fieldOf s a;
-  kind = msgTypeOf s a;
-  sent = instantIn (timed s (leafAt 2 a));
+  «msg_type» = msgTypeOf s a;
+  sent = instantIn (timed s (sentLeaf a));
   alert = a;
 }
 

@@ -1,5 +1,6 @@
 // A message read once, forward, and judged up to number 10.
 use clock::Time;
+use fields::MsgType;
 use pieces::End;
 use reader::Reader;
 use reads::Alert;
@@ -12,20 +13,19 @@ ghost use mathlib.Core.Bool.{not};
 ghost use Prim.Native.Nat.{_+_, _≤_};
 ghost use lib.ListN.{length};
 ghost use Rattle.octets.specs.Bytes.{pick, every, holds};
-ghost use Rattle.fields.specs.Fields.{statuses, msgTypes, scopes};
+ghost use Rattle.fields.specs.Fields.{statuses, scopes};
 ghost use Rattle.faults.specs.Field.{lowest};
 ghost use Rattle.markup.specs.Tree.{elemAt};
 ghost use Rattle.markup.specs.Document.{rooted, docAt};
 ghost use Rattle.message.specs.Root.{colonAt, rootWith};
-ghost use Rattle.message.specs.Judged.{onlyOf, identified, timed, valued, infoOk, faultsWith, referenced, numberWith};
+ghost use Rattle.message.specs.Judged.{onlyOf, identified, timed, valued, typed, isUnknown, infoOk, faultsWith, referenced, numberWith};
 ghost use Rattle.message.specs.Message.{refusedAs, judged, passed, rootContext, ofRoot, messageOf};
 
-// What a message says: its number and field; kind, the msgType's (1 Alert, 2 Update, 3 Cancel, 4 Ack, 5 Error); the instant of sent; and what is read in its
-// alert. After 4, 5 and 6 nothing is read.
+// What a message says: its number and field; its msgType; the instant of sent; and what is read in its alert. After 4, 5 and 6 nothing is read.
 pub struct Message {
     pub number: u32,
     pub field: u32,
-    pub kind: u32,
+    pub msg_type: MsgType,
     pub sent: u32,
     pub alert: Alert,
 }
@@ -39,7 +39,7 @@ fn refused(n: usize, number: u32) -> Message
     Message {
         number: number,
         field: 0,
-        kind: 0,
+        msg_type: MsgType::Unknown,
         sent: 0,
         alert: a,
     }
@@ -84,11 +84,11 @@ fn status_of(s: &[u8], l: Leaf) -> u32
     fields::status_at(s, l.at)
 }
 
-fn msg_type_of(s: &[u8], l: Leaf) -> u32
-    ensures { λ r. ⌜ r ≡ valued (now (s .entry)) msgTypes l ⌝ }
+fn msg_type_of(s: &[u8], l: Leaf) -> MsgType
+    ensures { λ r. ⌜ r ≡ typed (now (s .entry)) l ⌝ }
 {
     if !is_only(l) {
-        return 0;
+        return MsgType::Unknown;
     }
     fields::msg_type_at(s, l.at)
 }
@@ -134,10 +134,10 @@ fn are_sound(i: Info) -> bool
 fn is_info_sound(i: Info) -> bool
     ensures { λ r. ⌜ r ≡ infoOk i ⌝ }
 {
-    let expires = i.leaf[1];
-    let sender_name = i.leaf[2];
-    let description = i.leaf[3];
-    let instruction = i.leaf[4];
+    let expires = i.leaf[reads::EXPIRES];
+    let sender_name = i.leaf[reads::SENDER_NAME];
+    let description = i.leaf[reads::DESCRIPTION];
+    let instruction = i.leaf[reads::INSTRUCTION];
     if !reads::is_sound(expires) {
         return false;
     }
@@ -155,11 +155,24 @@ fn is_info_sound(i: Info) -> bool
 
 // ---- the judgement
 
-fn field_with(s: &[u8], a: Alert, sent: Time, status: u32, kind: u32, scope: u32) -> u32
-    ensures { λ r. ⌜ r ≡ lowest (faultsWith (now (s .entry)) a sent status kind scope) ⌝ }
+fn is_unknown(t: MsgType) -> bool
+    ensures { λ r. ⌜ r ≡ isUnknown t ⌝ }
 {
-    let identifier = a.leaf[0];
-    let sender = a.leaf[1];
+    match t {
+        MsgType::Unknown => true,
+        MsgType::Alert => false,
+        MsgType::Update => false,
+        MsgType::Cancel => false,
+        MsgType::Ack => false,
+        MsgType::Error => false,
+    }
+}
+
+fn field_with(s: &[u8], a: Alert, sent: Time, status: u32, msg_type: MsgType, scope: u32) -> u32
+    ensures { λ r. ⌜ r ≡ lowest (faultsWith (now (s .entry)) a sent status «msg_type» scope) ⌝ }
+{
+    let identifier = a.leaf[reads::IDENTIFIER];
+    let sender = a.leaf[reads::SENDER];
     let i = a.info;
     let no_identifier = !is_identified(s, identifier);
     let no_sender = !is_identified(s, sender);
@@ -170,14 +183,21 @@ fn field_with(s: &[u8], a: Alert, sent: Time, status: u32, kind: u32, scope: u32
         no_sender,
         no_sent,
         status == 0,
-        kind == 0,
+        is_unknown(msg_type),
         scope == 0,
         other,
     )
 }
 
-fn number_with(s: &[u8], field: u32, status: u32, scope: u32, kind: u32, references: Leaf) -> u32
-    ensures { λ r. ⌜ r ≡ numberWith (now (s .entry)) field status scope kind references ⌝ }
+fn number_with(
+    s: &[u8],
+    field: u32,
+    status: u32,
+    scope: u32,
+    msg_type: MsgType,
+    references: Leaf,
+) -> u32
+    ensures { λ r. ⌜ r ≡ numberWith (now (s .entry)) field status scope «msg_type» references ⌝ }
 {
     if field != 0 {
         return 7;
@@ -188,16 +208,14 @@ fn number_with(s: &[u8], field: u32, status: u32, scope: u32, kind: u32, referen
     if scope != 1 {
         return 8;
     }
-    if 3 < kind {
-        return 9;
+    match msg_type {
+        MsgType::Unknown => 0,
+        MsgType::Alert => 0,
+        MsgType::Update => number_of_references(s, references),
+        MsgType::Cancel => number_of_references(s, references),
+        MsgType::Ack => 9,
+        MsgType::Error => 9,
     }
-    if kind == 2 {
-        return number_of_references(s, references);
-    }
-    if kind == 3 {
-        return number_of_references(s, references);
-    }
-    0
 }
 
 fn number_of_references(s: &[u8], references: Leaf) -> u32
@@ -212,20 +230,20 @@ fn number_of_references(s: &[u8], references: Leaf) -> u32
 fn judge(s: &[u8], a: Alert) -> Message
     ensures { λ r. ⌜ r ≡ judged (now (s .entry)) a ⌝ }
 {
-    let sent_leaf = a.leaf[2];
-    let status_leaf = a.leaf[3];
-    let kind_leaf = a.leaf[4];
-    let scope_leaf = a.leaf[5];
-    let references = a.leaf[6];
+    let sent_leaf = a.leaf[reads::SENT];
+    let status_leaf = a.leaf[reads::STATUS];
+    let msg_type_leaf = a.leaf[reads::MSG_TYPE];
+    let scope_leaf = a.leaf[reads::SCOPE];
+    let references = a.leaf[reads::REFERENCES];
     let sent = time_of(s, sent_leaf);
     let status = status_of(s, status_leaf);
-    let kind = msg_type_of(s, kind_leaf);
+    let msg_type = msg_type_of(s, msg_type_leaf);
     let scope = scope_of(s, scope_leaf);
-    let field = field_with(s, a, sent, status, kind, scope);
+    let field = field_with(s, a, sent, status, msg_type, scope);
     Message {
-        number: number_with(s, field, status, scope, kind, references),
+        number: number_with(s, field, status, scope, msg_type, references),
         field: field,
-        kind: kind,
+        msg_type: msg_type,
         sent: clock::seconds(sent),
         alert: a,
     }

@@ -33,7 +33,7 @@ use Rattle.records.proofs.Making.{laid}
 use Rattle.records.proofs.Records.{record-long}
 use Rattle.ledger.specs.Board.{records}
 use Rattle.slots.specs.Slots.{flat}
-use Rattle.offers.specs.Records.{valueIn, ownIn, headerIn, namedBy, alertBy}
+use Rattle.offers.specs.Records.{ownReferences, ownIn, headerIn, namedBy, alertBy}
 use Rattle.offers.proofs.Taken.{named-good, references-are, map-long, Ready}
 
 -- ---- the notice
@@ -200,7 +200,7 @@ module _ (s : List ℕ) (j : Judged) (d : List ℕ) where
   unfolding alertBy
   records-are = refl
 
-  names-are : asksReferences (j .message .kind) ≡ true → map withdrawal (alertBy s j .names) ≡ map withdrawal (map namedBy (words (valueIn s (j .message) 6)))
+  names-are : asksReferences (j .message .«msg_type») ≡ true → map withdrawal (alertBy s j .names) ≡ map withdrawal (map namedBy (words (ownReferences s (j .message))))
   unfolding alertBy
   names-are q = rw q
 
@@ -216,13 +216,13 @@ module _ (s : List ℕ) (j : Judged) (d : List ℕ) where
     pub as-long : length x ≡ length d
     as-long = ap length p ∙ length-sets d 0 (flat notices)
 
-    pub put-alone : asksReferences (j .message .kind) ≡ false → Put d (records (alertBy s j)) n x
+    pub put-alone : asksReferences (j .message .«msg_type») ≡ false → Put d (records (alertBy s j)) n x
     unfolding alertBy
     put-alone q = rw (q, append-nil) (t ∙ sym (map-long (notice (ownIn s (j .message))) (alertBy s j .carries)), p)
 
-    pub put-both : Ready s j → (m : ℕ) (y : List ℕ) → asksReferences (j .message .kind) ≡ true → m ≡ n + length (words (valueIn s (j .message) 6)) → y ≡ sets x (n * 384) (withdrawals (words (valueIn s (j .message) 6))) → Put d (records (alertBy s j)) m y
+    pub put-both : Ready s j → (m : ℕ) (y : List ℕ) → asksReferences (j .message .«msg_type») ≡ true → m ≡ n + length (words (ownReferences s (j .message))) → y ≡ sets x (n * 384) (withdrawals (words (ownReferences s (j .message)))) → Put d (records (alertBy s j)) m y
     put-both r m y q c e =
-        let ws = words (valueIn s (j .message) 6) in
+        let ws = words (ownReferences s (j .message)) in
         let rest = map withdrawal (map namedBy ws) in
         let k = names-are q in
         let from : n * 384 ≡ 0 + length (flat notices) = omega (arith, t, notices-long r) in

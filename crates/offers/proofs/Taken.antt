@@ -9,7 +9,7 @@ use mathlib.Core.Bool.{Bool, true, false, _&&_, not}
 use mathlib.Core.List.{List, [], _∷_, map}
 use native.Mathlib.Omega.{arith}
 use borrow.Author.Tests.{eqb-true, not-false}
-use lib.Dec.{eqb, leb}
+use lib.Dec.{eqb}
 use lib.ListN.{length, getD, length-append}
 use Rattle.octets.specs.Bytes.{pick, every, part}
 use Rattle.octets.proofs.Tests.{and-right, each-of, every-none, every-step, every-first, every-rest, every-append, between-high}
@@ -25,6 +25,7 @@ use Rattle.header.proofs.Reading.{body-zero, body-long}
 use Rattle.header.proofs.WriteThenRead.{body-back, read-written-body}
 use Rattle.fields.specs.Fields.{identityOk}
 use Rattle.fields.specs.References.{senderOf, identifierOf, sentOf, groupOk, words, referencesOk}
+use Rattle.fields.specs.declared.MsgType.{MsgType}
 use Rattle.fields.proofs.Identities.{identity-short}
 use Rattle.fields.proofs.Groups.{groupTests}
 use Rattle.faults.specs.Field.{onward, lowest}
@@ -32,7 +33,8 @@ use Rattle.markup.specs.Tree.{one}
 use Rattle.reads.specs.declared.Alert.{Alert}
 use Rattle.reads.specs.declared.Leaf.{Leaf}
 use Rattle.gather.specs.Read.{alertOf}
-use Rattle.message.specs.Judged.{leafAt, onlyOf, identified, timed, statusOf, msgTypeOf, scopeOf, referenced, asksReferences, faultsWith, fieldOf, numberWith, numberOf}
+use Rattle.reads.specs.Leaves.{identifierLeaf, senderLeaf, sentLeaf, referencesLeaf}
+use Rattle.message.specs.Judged.{onlyOf, identified, timed, statusOf, msgTypeOf, scopeOf, referenced, isAckOrError, asksReferences, faultsWith, fieldOf, numberWith, numberOf}
 use Rattle.message.specs.Message.{judged, messageOf}
 use Rattle.message.specs.declared.Message.{Message}
 use Rattle.leaves.proofs.Fits.{message-holds, sent-in}
@@ -45,7 +47,7 @@ use Rattle.records.proofs.Stamps.{stamp-read}
 use Rattle.records.proofs.Records.{key-of-long, notice-ok, withdrawal-ok}
 use Rattle.ledger.specs.Sorted.{In}
 use Rattle.ledger.specs.Board.{records, Shaped}
-use Rattle.offers.specs.Records.{valueIn, ownIn, headerIn, namedBy, alertBy, recordsOf}
+use Rattle.offers.specs.Records.{ownIdentifier, ownReferences, ownSender, ownIn, headerIn, namedBy, alertBy, recordsOf}
 
 -- ---- its values
 
@@ -66,31 +68,31 @@ no-faults (false ∷ bs) (suc i) h = no-faults bs i (go (lowest bs) h)
     go zero e = refl
     go (suc n) e = absurd (omega arith)
 
-number-zero : (s : List ℕ) (field status scope kind : ℕ) (l : Leaf) → numberWith s field status scope kind l ≡ 0 → (field ≡ 0) × ((asksReferences kind && not (referenced s l)) ≡ false)
+number-zero : (s : List ℕ) (field status scope : ℕ) (t : MsgType) (l : Leaf) → numberWith s field status scope t l ≡ 0 → (field ≡ 0) × ((asksReferences t && not (referenced s l)) ≡ false)
 unfolding numberWith
-number-zero s field status scope kind l = go (eqb field 0) refl (eqb status 1 && eqb scope 1) (leb kind 3) (asksReferences kind && not (referenced s l)) refl
+number-zero s field status scope t l = go (eqb field 0) refl (eqb status 1 && eqb scope 1) (isAckOrError t) (asksReferences t && not (referenced s l)) refl
   where
-    go : (a : Bool) → eqb field 0 ≡ a → (b d e : Bool) → (asksReferences kind && not (referenced s l)) ≡ e → pick {A = ℕ} a (pick b (pick d (pick e 10 0) 9) 8) 7 ≡ 0 → (field ≡ 0) × ((asksReferences kind && not (referenced s l)) ≡ false)
+    go : (a : Bool) → eqb field 0 ≡ a → (b d e : Bool) → (asksReferences t && not (referenced s l)) ≡ e → pick {A = ℕ} a (pick b (pick d 9 (pick e 10 0)) 8) 7 ≡ 0 → (field ≡ 0) × ((asksReferences t && not (referenced s l)) ≡ false)
     go false a b d e f h = absurd (omega arith)
     go true a false d e f h = absurd (omega arith)
-    go true a true false e f h = absurd (omega arith)
-    go true a true true true f h = absurd (omega arith)
-    go true a true true false f h = (eqb-true field 0 a, f)
+    go true a true true e f h = absurd (omega arith)
+    go true a true false true f h = absurd (omega arith)
+    go true a true false false f h = (eqb-true field 0 a, f)
 
 pub record Sound (s : List ℕ) (m : Message) : Type 0 where
-  pub identifier : identityOk (valueIn s m 0) ≡ true
-  pub sender : identityOk (valueIn s m 1) ≡ true
-  pub references : asksReferences (m .kind) ≡ true → referencesOk (valueIn s m 6) ≡ true
+  pub identifier : identityOk (ownIdentifier s m) ≡ true
+  pub sender : identityOk (ownSender s m) ≡ true
+  pub references : asksReferences (m .«msg_type») ≡ true → referencesOk (ownReferences s m) ≡ true
 
 judged-sound : (s : List ℕ) (a : Alert) → numberOf s a ≡ 0 → Sound s (judged s a)
 unfolding judged identified referenced
 judged-sound s a h =
-    let z = number-zero s (fieldOf s a) (statusOf s a) (scopeOf s a) (msgTypeOf s a) (leafAt 6 a) h in
-    let bs = faultsWith s a (timed s (leafAt 2 a)) (statusOf s a) (msgTypeOf s a) (scopeOf s a) in
+    let z = number-zero s (fieldOf s a) (statusOf s a) (scopeOf s a) (msgTypeOf s a) (referencesLeaf a) h in
+    let bs = faultsWith s a (timed s (sentLeaf a)) (statusOf s a) (msgTypeOf s a) (scopeOf s a) in
     record {
-      identifier = and-right (onlyOf (leafAt 0 a)) _ (not-false _ (no-faults bs 0 (z .0)));
-      sender = and-right (onlyOf (leafAt 1 a)) _ (not-false _ (no-faults bs 1 (z .0)));
-      references = λ e. and-right (onlyOf (leafAt 6 a)) _ (not-false _ (asked (asksReferences (msgTypeOf s a)) _ e (z .1)));
+      identifier = and-right (onlyOf (identifierLeaf a)) _ (not-false _ (no-faults bs 0 (z .0)));
+      sender = and-right (onlyOf (senderLeaf a)) _ (not-false _ (no-faults bs 1 (z .0)));
+      references = λ e. and-right (onlyOf (referencesLeaf a)) _ (not-false _ (asked (asksReferences (msgTypeOf s a)) _ e (z .1)));
     }
   where
     asked : (x y : Bool) → x ≡ true → (x && y) ≡ false → y ≡ false
@@ -163,13 +165,13 @@ module _ (s : List ℕ) (zero : judgedOf s .number ≡ 0) where
   notices-good true e = every-none recordOk
   notices-good false e = every-step recordOk _ [] (notice-good s zero e) ∙ every-none recordOk
 
-  names-good : (q : Bool) → asksReferences (judgedOf s .message .kind) ≡ q → every recordOk (map withdrawal (pick q (map namedBy (words (valueIn s (judgedOf s .message) 6))) [])) ≡ true
-  names-good true e = withdrawals-good (words (valueIn s (judgedOf s .message) 6)) (references-are _ (sound s zero .references e) .1)
+  names-good : (q : Bool) → asksReferences (judgedOf s .message .«msg_type») ≡ q → every recordOk (map withdrawal (pick q (map namedBy (words (ownReferences s (judgedOf s .message)))) [])) ≡ true
+  names-good true e = withdrawals-good (words (ownReferences s (judgedOf s .message))) (references-are _ (sound s zero .references e) .1)
   names-good false e = every-none recordOk
 
   alert-good : every recordOk (records (alertBy s (judgedOf s))) ≡ true
   unfolding alertBy
-  alert-good = every-append recordOk _ _ (notices-good (judgedOf s .quiet) refl) (names-good (asksReferences (judgedOf s .message .kind)) refl)
+  alert-good = every-append recordOk _ _ (notices-good (judgedOf s .quiet) refl) (names-good (asksReferences (judgedOf s .message .«msg_type»)) refl)
 
   carries-few : length (alertBy s (judgedOf s) .carries) ≤ 1
   unfolding alertBy
@@ -181,12 +183,12 @@ module _ (s : List ℕ) (zero : judgedOf s .number ≡ 0) where
 
   names-few : length (alertBy s (judgedOf s) .names) ≤ 16
   unfolding alertBy
-  names-few = go (asksReferences (judgedOf s .message .kind)) refl
+  names-few = go (asksReferences (judgedOf s .message .«msg_type»)) refl
     where
       ws : List (List ℕ)
-      ws = words (valueIn s (judgedOf s .message) 6)
+      ws = words (ownReferences s (judgedOf s .message))
 
-      go : (q : Bool) → asksReferences (judgedOf s .message .kind) ≡ q → length (pick q (map namedBy ws) []) ≤ 16
+      go : (q : Bool) → asksReferences (judgedOf s .message .«msg_type») ≡ q → length (pick q (map namedBy ws) []) ≤ 16
       go true e = let l = map-long namedBy ws in let k = references-are _ (sound s zero .references e) .0 in omega arith
       go false e = omega arith
 
@@ -222,9 +224,9 @@ records-few s = go (eqb (judgedOf s .number) 0) refl
 -- ---- the same of a judgement
 
 pub record Ready (s : List ℕ) (j : Judged) : Type 0 where
-  pub sender : length (valueIn s (j .message) 1) ≤ 64
-  pub identifier : length (valueIn s (j .message) 0) ≤ 64
-  pub references : asksReferences (j .message .kind) ≡ true → referencesOk (valueIn s (j .message) 6) ≡ true
+  pub sender : length (ownSender s (j .message)) ≤ 64
+  pub identifier : length (ownIdentifier s (j .message)) ≤ 64
+  pub references : asksReferences (j .message .«msg_type») ≡ true → referencesOk (ownReferences s (j .message)) ≡ true
   pub places : j .quiet ≡ false → j .body .count ≤ 31
   pub header : j .quiet ≡ false → length (bodyBytes (j .body)) ≤ 243
   pub notice : j .quiet ≡ false → recordOk (notice (ownIn s (j .message)) (headerIn j)) ≡ true

@@ -7,20 +7,26 @@ use Rattle.clock.specs.Time.{timeOf, instantIn}
 use Rattle.header.specs.Body.{bodyBytes}
 use Rattle.values.specs.Value.{valueAt}
 use Rattle.fields.specs.References.{senderOf, identifierOf, sentOf, words}
-use Rattle.message.specs.Judged.{leafAt, asksReferences}
+use Rattle.reads.specs.Leaves.{identifierLeaf, senderLeaf, referencesLeaf}
+use Rattle.message.specs.Judged.{asksReferences}
 use Rattle.message.specs.declared.Message.{Message}
 use Rattle.judgement.specs.Judged.{judgedOf}
 use Rattle.judgement.specs.declared.Judged.{Judged}
 use Rattle.records.specs.Record.{pad, keyOf}
 use Rattle.ledger.specs.Board.{Alert, records}
 
--- the value of a leaf: 0 identifier, 1 sender, 6 references
-abbrev pub valueIn : List ℕ → Message → ℕ → List ℕ
-valueIn s m k = valueAt s (leafAt k (m .alert) .at)
+abbrev pub ownIdentifier : List ℕ → Message → List ℕ
+ownIdentifier s m = valueAt s (identifierLeaf (m .alert) .at)
+
+abbrev pub ownSender : List ℕ → Message → List ℕ
+ownSender s m = valueAt s (senderLeaf (m .alert) .at)
+
+abbrev pub ownReferences : List ℕ → Message → List ℕ
+ownReferences s m = valueAt s (referencesLeaf (m .alert) .at)
 
 -- its own sent, sender and identifier
 unfoldable pub ownIn : List ℕ → Message → List ℕ
-ownIn s m = keyOf (m .sent) (valueIn s m 1) (valueIn s m 0)
+ownIn s m = keyOf (m .sent) (ownSender s m) (ownIdentifier s m)
 
 -- the header through the dash after JJJHHMM, zero-filled
 unfoldable pub headerIn : Judged → List ℕ
@@ -35,7 +41,7 @@ unfoldable pub alertBy : List ℕ → Judged → Alert
 alertBy s j = record {
   own = ownIn s (j .message);
   carries = pick (j .quiet) [] (headerIn j ∷ []);
-  names = pick (asksReferences (j .message .kind)) (map namedBy (words (valueIn s (j .message) 6))) [];
+  names = pick (asksReferences (j .message .«msg_type»)) (map namedBy (words (ownReferences s (j .message)))) [];
 }
 
 -- the records of a message; none where it is refused

@@ -1,4 +1,5 @@
 // A message offered to a board: the records that it adds, and the call.
+use fields::MsgType;
 use fields::Word;
 use judgement::Judged;
 use records::Record;
@@ -83,8 +84,8 @@ fn notice_by(s: &[u8], j: Judged) -> Record
 {
     let m = j.message;
     let a = m.alert;
-    let identifier = a.leaf[0];
-    let sender = a.leaf[1];
+    let identifier = a.leaf[reads::IDENTIFIER];
+    let sender = a.leaf[reads::SENDER];
     let body = j.body;
     let mut by = [0u8; 64];
     values::copy(s, sender.at, 64, &mut by, 0);
@@ -112,14 +113,18 @@ fn put_notice(s: &[u8], j: Judged, batch: &mut [u8]) -> usize
 
 // ---- the records of a message
 
-// Whether a message of this kind has references.
-fn has_references(kind: u32) -> bool
-    ensures { λ r. ⌜ r ≡ asksReferences kind ⌝ }
+// Whether a message of this msgType has references.
+fn has_references(t: MsgType) -> bool
+    ensures { λ r. ⌜ r ≡ asksReferences t ⌝ }
 {
-    if kind == 2 {
-        return true;
+    match t {
+        MsgType::Unknown => false,
+        MsgType::Alert => false,
+        MsgType::Update => true,
+        MsgType::Cancel => true,
+        MsgType::Ack => false,
+        MsgType::Error => false,
     }
-    kind == 3
 }
 
 // Puts the records of a message that answers 0, and says how many there are.
@@ -130,11 +135,12 @@ fn put_records(s: &[u8], j: Judged, batch: &mut [u8]) -> usize
 {
     let n = put_notice(s, j, batch);
     let m = j.message;
-    if !has_references(m.kind) {
+    let t = m.msg_type;
+    if !has_references(t) {
         return n;
     }
     let a = m.alert;
-    let references = a.leaf[6];
+    let references = a.leaf[reads::REFERENCES];
     put_withdrawals(s, references.at, batch, n)
 }
 

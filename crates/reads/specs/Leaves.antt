@@ -2,11 +2,13 @@
 use Prim.Native.Nat.{ℕ}
 use mathlib.Core.Bool.{Bool, true, false, not}
 use mathlib.Core.List.{[], _∷_}
-use lib.ListN.{replicate}
+use lib.ListN.{replicate, getD}
 use lib.Dec.{eqb, leb}
 use Rattle.octets.specs.Bytes.{pick, every, holds}
 use Rattle.reads.specs.declared.Leaf.{Leaf}
 use Rattle.reads.specs.declared.Info.{Info}
+use Rattle.reads.specs.declared.Alert.{Alert}
+use Rattle.reads.specs.declared.Kept.the-variants.{Nothing}
 use Rattle.reads.specs.declared.State.{State}
 
 -- a leaf that is absent from a message of n bytes: its value, at the message's end, is empty
@@ -44,10 +46,50 @@ abbrev pub fresh : ℕ → State
 fresh n = record {
   alert = record {
     leaf = blank n ∷ blank n ∷ blank n ∷ blank n ∷ blank n ∷ blank n ∷ blank n ∷ [];
-    kept = 0;
+    kept = Nothing;
     info = noInfo n;
     fault = false;
   };
   info = noInfo n;
   pair = blank n ∷ blank n ∷ [];
 }
+
+-- ---- the leaves of an alert by name
+
+abbrev pub identifierLeaf : Alert → Leaf
+identifierLeaf a = getD (a .leaf) 0 (blank 0)
+
+abbrev pub senderLeaf : Alert → Leaf
+senderLeaf a = getD (a .leaf) 1 (blank 0)
+
+abbrev pub sentLeaf : Alert → Leaf
+sentLeaf a = getD (a .leaf) 2 (blank 0)
+
+abbrev pub statusLeaf : Alert → Leaf
+statusLeaf a = getD (a .leaf) 3 (blank 0)
+
+abbrev pub msgTypeLeaf : Alert → Leaf
+msgTypeLeaf a = getD (a .leaf) 4 (blank 0)
+
+abbrev pub scopeLeaf : Alert → Leaf
+scopeLeaf a = getD (a .leaf) 5 (blank 0)
+
+abbrev pub referencesLeaf : Alert → Leaf
+referencesLeaf a = getD (a .leaf) 6 (blank 0)
+
+-- ---- the leaves of an info by name
+
+abbrev pub languageLeaf : Info → Leaf
+languageLeaf i = getD (i .leaf) 0 (blank 0)
+
+abbrev pub expiresLeaf : Info → Leaf
+expiresLeaf i = getD (i .leaf) 1 (blank 0)
+
+abbrev pub senderNameLeaf : Info → Leaf
+senderNameLeaf i = getD (i .leaf) 2 (blank 0)
+
+abbrev pub descriptionLeaf : Info → Leaf
+descriptionLeaf i = getD (i .leaf) 3 (blank 0)
+
+abbrev pub instructionLeaf : Info → Leaf
+instructionLeaf i = getD (i .leaf) 4 (blank 0)

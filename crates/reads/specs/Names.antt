@@ -4,9 +4,11 @@ use Prim.Native.String.{String}
 use mathlib.Core.Bool.{_&&_}
 use mathlib.Core.List.{List, [], _∷_}
 use lib.ListN.{length}
-use lib.Dec.{eqb, leb}
+use lib.Dec.{leb}
 use Rattle.octets.specs.Bytes.{pick, part, same, stands}
 use Rattle.octets.specs.Text.{bytes}
+use Rattle.reads.specs.declared.Kept.{Kept}
+use Rattle.reads.specs.declared.Kept.the-variants.{Nothing, First, Selected}
 use Rattle.reads.specs.declared.Context.{Context}
 use Rattle.reads.specs.declared.Context.the-variants.{Root, Alert, Info, Later, EventCode, Parameter, Resource, Area, Geocode, AlertLeaf, InfoLeaf, PairLeaf, Skipped}
 
@@ -28,9 +30,14 @@ unfoldable pub among : List Row → List ℕ → Context
 among [] w = Skipped
 among (r ∷ rs) w = pick (same w (bytes (r .name))) (r .inside) (among rs w)
 
--- read in `alert`: 1 identifier, 2 sender, 3 sent, 4 status, 5 msgType, 6 scope, references, info; behind the info that is selected (2) only the language
--- of an info is read
-abbrev pub inAlert : ℕ → List Row
+-- behind the info that is selected only the language of an info is read
+abbrev pub infoInside : Kept → Context
+infoInside Nothing = Info
+infoInside First = Info
+infoInside Selected = Later
+
+-- read in `alert`: 1 identifier, 2 sender, 3 sent, 4 status, 5 msgType, 6 scope, references, info
+abbrev pub inAlert : Kept → List Row
 inAlert kept =
     record { name = "identifier"; inside = AlertLeaf 0 }
     ∷ record { name = "sender"; inside = AlertLeaf 1 }
@@ -39,7 +46,7 @@ inAlert kept =
     ∷ record { name = "msgType"; inside = AlertLeaf 4 }
     ∷ record { name = "scope"; inside = AlertLeaf 5 }
     ∷ record { name = "references"; inside = AlertLeaf 6 }
-    ∷ record { name = "info"; inside = pick (eqb kept 2) Later Info }
+    ∷ record { name = "info"; inside = infoInside kept }
     ∷ []
 
 -- read there: language, eventCode, expires, senderName, description, instruction, parameter, resource, area
@@ -70,7 +77,7 @@ inResource = record { name = "mimeType"; inside = PairLeaf 0 } ∷ record { name
 abbrev pub inArea : List Row
 inArea = record { name = "geocode"; inside = Geocode } ∷ []
 
-abbrev pub alertContext : ℕ → List ℕ → Context
+abbrev pub alertContext : Kept → List ℕ → Context
 alertContext kept w = among (inAlert kept) w
 
 abbrev pub infoContext : List ℕ → Context
@@ -89,7 +96,7 @@ abbrev pub areaContext : List ℕ → Context
 areaContext w = among inArea w
 
 -- the context inside an element of the name w that stands in the context c
-unfoldable pub inside : ℕ → Context → List ℕ → Context
+unfoldable pub inside : Kept → Context → List ℕ → Context
 inside kept Root w = Alert
 inside kept Alert w = alertContext kept w
 inside kept Info w = infoContext w
@@ -104,5 +111,5 @@ inside kept (InfoLeaf k) w = Skipped
 inside kept (PairLeaf k) w = Skipped
 inside kept Skipped w = Skipped
 
-abbrev pub contextOf : List ℕ → List ℕ → ℕ → ℕ → Context → ℕ → Context
+abbrev pub contextOf : List ℕ → List ℕ → ℕ → ℕ → Context → Kept → Context
 contextOf s p i a c kept = inside kept c (nameOf s p i a)

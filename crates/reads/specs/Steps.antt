@@ -1,8 +1,8 @@
 -- What an eventCode, a parameter, a geocode, a resource and an info add to what has been read. n is a place, whose value is valueAt s n.
 use Prim.Native.Nat.{ℕ, _+_}
-use mathlib.Core.Bool.{Bool, true, _&&_, _||_, not}
+use mathlib.Core.Bool.{Bool, true, false, _&&_, _||_, not}
 use mathlib.Core.List.{List, [], map}
-use lib.ListN.{length, getD, set}
+use lib.ListN.{length, set}
 use lib.Dec.{eqb, leb}
 use Rattle.octets.specs.Bytes.{pick, between, same}
 use Rattle.octets.specs.Text.{bytes}
@@ -16,7 +16,9 @@ use Rattle.reads.specs.declared.Locations.{Locations}
 use Rattle.reads.specs.declared.Audio.{Audio}
 use Rattle.reads.specs.declared.Info.{Info}
 use Rattle.reads.specs.declared.Alert.{Alert}
-use Rattle.reads.specs.Leaves.{blank, found, soundOf, pairOk}
+use Rattle.reads.specs.declared.Kept.{Kept}
+use Rattle.reads.specs.declared.Kept.the-variants.{Nothing, First, Selected}
+use Rattle.reads.specs.Leaves.{found, soundOf, pairOk, languageLeaf}
 
 -- the value at n is this text
 abbrev pub says : List ℕ → ℕ → List ℕ → Bool
@@ -81,17 +83,20 @@ audioStep s e mime uri =
 unfoldable pub english : List ℕ → Leaf → Bool
 english s language = says s (language .at) [] || same (map small (valueAt s (language .at))) (bytes "en-us")
 
-abbrev pub languageOf : Info → Leaf
-languageOf i = getD (i .leaf) 0 (blank 0)
-
 abbrev pub languageFault : Alert → Info → Bool
-languageFault a i = a .fault || not (soundOf (languageOf i))
+languageFault a i = a .fault || not (soundOf (languageLeaf i))
+
+-- no info is kept yet
+abbrev pub isNothing : Kept → Bool
+isNothing Nothing = true
+isNothing First = false
+isNothing Selected = false
 
 -- the first info of such a language is selected; if none, the first
 unfoldable pub infoStep : List ℕ → Alert → Info → Alert
 infoStep s a i =
-    pick (english s (languageOf i)) (record { leaf = a .leaf; kept = 2; info = i; fault = languageFault a i })
-    (pick (eqb (a .kept) 0) (record { leaf = a .leaf; kept = 1; info = i; fault = languageFault a i })
+    pick (english s (languageLeaf i)) (record { leaf = a .leaf; kept = Selected; info = i; fault = languageFault a i })
+    (pick (isNothing (a .kept)) (record { leaf = a .leaf; kept = First; info = i; fault = languageFault a i })
     (record { leaf = a .leaf; kept = a .kept; info = a .info; fault = languageFault a i }))
 
 -- only it is judged further, apart from language, which is read in each

@@ -6,7 +6,7 @@ ghost use Prim.Native.Nat.{_≤_};
 ghost use lib.ListN.{length};
 ghost use Rattle.reads.specs.Leaves.{blank, marked, found, soundOf, pairOk, noInfo, fresh};
 ghost use Rattle.reads.specs.Names.{localAt, alertContext, infoContext, laterContext, pairContext, resourceContext, areaContext, contextOf};
-ghost use Rattle.reads.specs.Steps.{eventStep, parameterStep, placed, locationStep, audioOf, audioStep, english, infoStep, laterStep};
+ghost use Rattle.reads.specs.Steps.{eventStep, parameterStep, placed, locationStep, audioOf, audioStep, english, isNothing, infoStep, laterStep};
 
 // A leaf: where the value of the first begins, how often it stands (0, 1, and 2 for more), and whether one of them holds an element.
 pub struct Leaf {
@@ -44,7 +44,18 @@ pub struct Audio {
     pub fault: bool,
 }
 
-// What is read in an info. Its leaves: language, expires, senderName, description, instruction.
+// The leaves of an info, by their places.
+pub const LANGUAGE: usize = 0;
+
+pub const EXPIRES: usize = 1;
+
+pub const SENDER_NAME: usize = 2;
+
+pub const DESCRIPTION: usize = 3;
+
+pub const INSTRUCTION: usize = 4;
+
+// What is read in an info.
 pub struct Info {
     pub leaf: [Leaf; 5],
     pub events: Events,
@@ -53,12 +64,33 @@ pub struct Info {
     pub audio: Audio,
 }
 
-// What is read in an alert. Its leaves: identifier, sender, sent, status, msgType, scope, references. Of the infos one is kept: none yet (0), the first
-// (1), or the one that is selected (2); and whether the language of one is at fault.
+// The leaves of an alert, by their places.
+pub const IDENTIFIER: usize = 0;
+
+pub const SENDER: usize = 1;
+
+pub const SENT: usize = 2;
+
+pub const STATUS: usize = 3;
+
+pub const MSG_TYPE: usize = 4;
+
+pub const SCOPE: usize = 5;
+
+pub const REFERENCES: usize = 6;
+
+// Of the infos one is kept: none yet, the first, or the one that is selected.
+pub enum Kept {
+    Nothing,
+    First,
+    Selected,
+}
+
+// What is read in an alert; the info that is kept; and whether the language of one is at fault.
 pub struct Alert {
     pub leaf: [Leaf; 7],
     pub info: Info,
-    pub kept: u32,
+    pub kept: Kept,
     pub fault: bool,
 }
 
@@ -136,7 +168,7 @@ pub fn new_state(n: usize) -> State
     State {
         alert: Alert {
             leaf: [l, l, l, l, l, l, l],
-            kept: 0,
+            kept: Kept::Nothing,
             info: i,
             fault: false,
         },
@@ -218,76 +250,51 @@ pub fn local(s: &[u8], p: &[u8], from: usize, to: usize) -> usize
     to
 }
 
-pub fn alert_context(name: &[u8], kept: u32) -> Context
+pub fn alert_context(name: &[u8], kept: Kept) -> Context
     ensures { λ r. ⌜ r ≡ alertContext kept (now (name .entry)) ⌝ }
 {
-    if octets::equal(name, b"identifier") {
-        return Context::AlertLeaf(0);
+    let k = words::which(
+        name,
+        b"\x0a\x06\x04\x06\x07\x05\x0a\x04",
+        b"identifiersendersentstatusmsgTypescopereferencesinfo",
+    );
+    if k < 7 {
+        return Context::AlertLeaf(k);
     }
-    if octets::equal(name, b"sender") {
-        return Context::AlertLeaf(1);
+    if 7 < k {
+        return Context::Skipped;
     }
-    if octets::equal(name, b"sent") {
-        return Context::AlertLeaf(2);
+    match kept {
+        Kept::Nothing => Context::Info,
+        Kept::First => Context::Info,
+        Kept::Selected => Context::Later,
     }
-    if octets::equal(name, b"status") {
-        return Context::AlertLeaf(3);
-    }
-    if octets::equal(name, b"msgType") {
-        return Context::AlertLeaf(4);
-    }
-    if octets::equal(name, b"scope") {
-        return Context::AlertLeaf(5);
-    }
-    if octets::equal(name, b"references") {
-        return Context::AlertLeaf(6);
-    }
-    if octets::equal(name, b"info") {
-        if kept == 2 {
-            return Context::Later;
-        }
-        return Context::Info;
-    }
-    Context::Skipped
 }
 
 pub fn info_context(name: &[u8]) -> Context
     ensures { λ r. ⌜ r ≡ infoContext (now (name .entry)) ⌝ }
 {
-    if octets::equal(name, b"language") {
-        return Context::InfoLeaf(0);
+    let k = words::which(
+        name,
+        b"\x08\x09\x07\x0a\x0b\x0b\x09\x08\x04",
+        b"languageeventCodeexpiressenderNamedescriptioninstructionparameterresourcearea",
+    );
+    match k {
+        0 => Context::InfoLeaf(0),
+        1 => Context::EventCode,
+        2..=5 => Context::InfoLeaf(k - 1),
+        6 => Context::Parameter,
+        7 => Context::Resource,
+        8 => Context::Area,
+        _ => Context::Skipped,
     }
-    if octets::equal(name, b"eventCode") {
-        return Context::EventCode;
-    }
-    if octets::equal(name, b"expires") {
-        return Context::InfoLeaf(1);
-    }
-    if octets::equal(name, b"senderName") {
-        return Context::InfoLeaf(2);
-    }
-    if octets::equal(name, b"description") {
-        return Context::InfoLeaf(3);
-    }
-    if octets::equal(name, b"instruction") {
-        return Context::InfoLeaf(4);
-    }
-    if octets::equal(name, b"parameter") {
-        return Context::Parameter;
-    }
-    if octets::equal(name, b"resource") {
-        return Context::Resource;
-    }
-    if octets::equal(name, b"area") {
-        return Context::Area;
-    }
-    Context::Skipped
 }
 
 pub fn later_context(name: &[u8]) -> Context
     ensures { λ r. ⌜ r ≡ laterContext (now (name .entry)) ⌝ }
 {
-    if octets::equal(name, b"language") {
+    let k = words::which(name, b"\x08", b"language");
+    if k == 0 {
         return Context::InfoLeaf(0);
     }
     Context::Skipped
@@ -296,11 +303,9 @@ pub fn later_context(name: &[u8]) -> Context
 pub fn pair_context(name: &[u8]) -> Context
     ensures { λ r. ⌜ r ≡ pairContext (now (name .entry)) ⌝ }
 {
-    if octets::equal(name, b"valueName") {
-        return Context::PairLeaf(0);
-    }
-    if octets::equal(name, b"value") {
-        return Context::PairLeaf(1);
+    let k = words::which(name, b"\x09\x05", b"valueNamevalue");
+    if k < 2 {
+        return Context::PairLeaf(k);
     }
     Context::Skipped
 }
@@ -308,11 +313,9 @@ pub fn pair_context(name: &[u8]) -> Context
 pub fn resource_context(name: &[u8]) -> Context
     ensures { λ r. ⌜ r ≡ resourceContext (now (name .entry)) ⌝ }
 {
-    if octets::equal(name, b"mimeType") {
-        return Context::PairLeaf(0);
-    }
-    if octets::equal(name, b"uri") {
-        return Context::PairLeaf(1);
+    let k = words::which(name, b"\x08\x03", b"mimeTypeuri");
+    if k < 2 {
+        return Context::PairLeaf(k);
     }
     Context::Skipped
 }
@@ -320,14 +323,15 @@ pub fn resource_context(name: &[u8]) -> Context
 pub fn area_context(name: &[u8]) -> Context
     ensures { λ r. ⌜ r ≡ areaContext (now (name .entry)) ⌝ }
 {
-    if octets::equal(name, b"geocode") {
+    let k = words::which(name, b"\x07", b"geocode");
+    if k == 0 {
         return Context::Geocode;
     }
     Context::Skipped
 }
 
 // The context inside the element in the context c whose name stands from `from` to `to`.
-pub fn context_of(s: &[u8], p: &[u8], from: usize, to: usize, c: Context, kept: u32) -> Context
+pub fn context_of(s: &[u8], p: &[u8], from: usize, to: usize, c: Context, kept: Kept) -> Context
     requires { ⌜ (from ≤ to) × (to ≤ length (now s)) ⌝ }
     ensures { λ r. ⌜ r ≡ contextOf (now (s .entry)) (now (p .entry)) from to c kept ⌝ }
 {
@@ -386,7 +390,8 @@ pub fn parameter_step(s: &[u8], e: Parameters, name: Leaf, value: Leaf) -> Param
             fault: true,
         };
     }
-    if values::equal(s, at, b"EAS-ORG") {
+    let k = words::which_value(s, at, b"\x07\x07\x0e", b"EAS-ORGEASTextEAS-Must-Carry");
+    if k == 0 {
         return Parameters {
             originator: find(originator, value.at),
             text: text,
@@ -394,7 +399,7 @@ pub fn parameter_step(s: &[u8], e: Parameters, name: Leaf, value: Leaf) -> Param
             fault: e.fault,
         };
     }
-    if values::equal(s, at, b"EASText") {
+    if k == 1 {
         return Parameters {
             originator: originator,
             text: find(text, value.at),
@@ -402,7 +407,7 @@ pub fn parameter_step(s: &[u8], e: Parameters, name: Leaf, value: Leaf) -> Param
             fault: e.fault,
         };
     }
-    if values::equal(s, at, b"EAS-Must-Carry") {
+    if k == 2 {
         return Parameters {
             originator: originator,
             text: text,
@@ -462,14 +467,14 @@ pub fn location_step(s: &[u8], e: Locations, name: Leaf, value: Leaf) -> Locatio
 pub fn audio_of(s: &[u8], at: usize) -> u32
     ensures { λ r. ⌜ r ≡ audioOf (now (s .entry)) at ⌝ }
 {
-    if values::equal(s, at, b"audio/x-ipaws-audio-mp3") {
-        return 1;
-    }
-    if values::equal(s, at, b"audio/x-ipaws-audio-wav") {
-        return 2;
-    }
-    if values::equal(s, at, b"audio/x-ipaws-streaming-audio-mp3") {
-        return 3;
+    let k = words::which_value(
+        s,
+        at,
+        b"\x17\x17\x21",
+        b"audio/x-ipaws-audio-mp3audio/x-ipaws-audio-wavaudio/x-ipaws-streaming-audio-mp3",
+    );
+    if k < 3 {
+        return k as u32 + 1;
     }
     0
 }
@@ -525,34 +530,46 @@ pub fn is_english(s: &[u8], language: Leaf) -> bool
     values::equal_any_case(s, at, b"en-us")
 }
 
+// No info is kept yet.
+pub fn is_nothing(k: Kept) -> bool
+    ensures { λ r. ⌜ r ≡ isNothing k ⌝ }
+{
+    match k {
+        Kept::Nothing => true,
+        Kept::First => false,
+        Kept::Selected => false,
+    }
+}
+
 // An info that has been read whole, before one is selected.
 pub fn info_step(s: &[u8], a: Alert, i: Info) -> Alert
     ensures { λ r. ⌜ r ≡ infoStep (now (s .entry)) a i ⌝ }
 {
     let leaf = a.leaf;
-    let kept = a.info;
-    let language = i.leaf[0];
+    let kept = a.kept;
+    let info = a.info;
+    let language = i.leaf[LANGUAGE];
     let fault = either(a.fault, !is_sound(language));
     if is_english(s, language) {
         return Alert {
             leaf: leaf,
-            kept: 2,
+            kept: Kept::Selected,
             info: i,
             fault: fault,
         };
     }
-    if a.kept == 0 {
+    if is_nothing(kept) {
         return Alert {
             leaf: leaf,
-            kept: 1,
+            kept: Kept::First,
             info: i,
             fault: fault,
         };
     }
     Alert {
         leaf: leaf,
-        kept: a.kept,
-        info: kept,
+        kept: kept,
+        info: info,
         fault: fault,
     }
 }
@@ -571,12 +588,13 @@ pub fn later_step(a: Alert, i: Info) -> Alert
     ensures { λ r. ⌜ r ≡ laterStep a i ⌝ }
 {
     let leaf = a.leaf;
-    let kept = a.info;
-    let language = i.leaf[0];
+    let kept = a.kept;
+    let info = a.info;
+    let language = i.leaf[LANGUAGE];
     Alert {
         leaf: leaf,
-        kept: a.kept,
-        info: kept,
+        kept: kept,
+        info: info,
         fault: either(a.fault, !is_sound(language)),
     }
 }

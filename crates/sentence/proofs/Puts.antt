@@ -1,10 +1,8 @@
 -- What the writers of the sentence leave, piece by piece.
 --     first, next, next-number, put-all   writers one behind another
---     hit, skip                           the words of an event, row by row
 --     Left, left-step, left-done          a run of which the rest has yet to be put
 use Prim.Native.Nat.{ℕ, _+_, _/_, _%_, _≤_, _<_}
-use mathlib.Core.Bool.{true, false}
-use mathlib.Core.List.{List, [], _∷_, _++_, append-assoc}
+use mathlib.Core.List.{List, [], _++_, append-assoc}
 use mathlib.Core.Path.{_≡_, refl, sym, ap, _∙_}
 use native.Mathlib.Nat.{zero-add}
 use native.Mathlib.Omega.{arith}
@@ -13,10 +11,9 @@ use lib.Seq.{sets, length-sets}
 use Rattle.octets.proofs.Numbers.{length-digits}
 use Rattle.octets.proofs.Parts.{part-step, part-end}
 use Rattle.octets.proofs.Runs.{Run, goes-on, and}
-use Rattle.octets.specs.Bytes.{same}
 use Rattle.octets.specs.Digits.{digits}
 use Rattle.octets.specs.Text.{bytes}
-use Rattle.sentence.specs.Words.{Event, wordsIn, locationWord, others, joined, whenWords}
+use Rattle.sentence.specs.Words.{locationWord, others, joined, whenWords}
 
 -- what a writer of ws at `at` promises of its end r and of what it leaves
 abbrev pub Put : List ℕ → ℕ → List ℕ → List ℕ → ℕ → Type 0
@@ -44,17 +41,6 @@ pub when-is : (period day hour minute : ℕ) → whenWords period day hour minut
     ++ (bytes " for " ++ digits 2 (period / 60))) ++ (bytes " hours " ++ digits 2 (period % 60))) ++ bytes " minutes."
 unfolding whenWords
 when-is period day hour minute = simp append-assoc
-
--- ---- the words of an event
-
-module _ (r : Event) (rs : List Event) (e : List ℕ) where
-  pub hit : same e (r .code) ≡ true → wordsIn (r ∷ rs) e ≡ r .words
-  unfolding wordsIn
-  hit h = rw h
-
-  pub skip : same e (r .code) ≡ false → wordsIn (r ∷ rs) e ≡ wordsIn rs e
-  unfolding wordsIn
-  skip h = rw h
 
 -- ---- the locations, one by one
 

@@ -40,26 +40,17 @@ fn put_event(out: &mut [u8], at: usize, e: &[u8]) -> usize
     ensures { λ r. ⌜ r ≡ at + length (eventWords (now (e .entry))) ⌝ }
     ensures { λ _. ⌜ now (out .exit) ≡ sets (now (out .entry)) at (eventWords (now (e .entry))) ⌝ }
 {
-    if octets::equal(e, b"EAN") {
-        return put(out, at, b"Emergency Action Notification");
+    let k = words::which(e, b"\x03\x03\x03\x03\x03\x03", b"EANRMTRWTCEMFFWTOR");
+    if k < 6 {
+        let t = words::word(
+            b"\x1d\x15\x14\x17\x13\x0f",
+            b"Emergency Action NotificationRequired Monthly TestRequired Weekly TestCivil Emergency MessageFlash Flood WarningTornado Warning",
+            k,
+        );
+        return put(out, at, t);
     }
-    if octets::equal(e, b"RMT") {
-        return put(out, at, b"Required Monthly Test");
-    }
-    if octets::equal(e, b"RWT") {
-        return put(out, at, b"Required Weekly Test");
-    }
-    if octets::equal(e, b"CEM") {
-        return put(out, at, b"Civil Emergency Message");
-    }
-    if octets::equal(e, b"FFW") {
-        return put(out, at, b"Flash Flood Warning");
-    }
-    if octets::equal(e, b"TOR") {
-        return put(out, at, b"Tornado Warning");
-    }
-    let k = put(out, at, b"event ");
-    put(out, k, e)
+    let n = put(out, at, b"event ");
+    put(out, n, e)
 }
 
 fn put_who(out: &mut [u8], at: usize, o: Originator, e: &[u8]) -> usize

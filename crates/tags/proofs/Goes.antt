@@ -25,6 +25,7 @@ use Rattle.pieces.proofs.Goes.{Goes, PastGoes, EndGoes, RefGoes, space-ge, name
 use Rattle.pieces.proofs.Walks.{StepGoes, walk-goes}
 use Rattle.tags.specs.Attributes.{over, bitAt, valueAt, valued, equalled, attrAt, sought, seekAt, attrNamed}
 use Rattle.tags.specs.Tags.{fresh, taken, takeAt, shutAt, tailAt, tailed, openAt, closeAt}
+use Rattle.tags.specs.Seen.{way, apart, looked, lookAt}
 use Rattle.tags.specs.declared.Attr.{Attr}
 use Rattle.tags.specs.declared.Attr.the-variants.{Of, Last, None}
 use Rattle.tags.specs.declared.Open.{Open}
@@ -98,6 +99,20 @@ attr-goes s i = go (eqb (byteAt s (past isSpace s i)) 62) refl (eqb (byteAt s (p
 pub of-goes : {s : List ℕ} {i j e v w : ℕ} → AttrGoes s i (Of j e v w) → Goes s i w
 of-goes g = let a = g .0 in let b = g .1 in let c = g .2 in let d = g .3 in record { on = omega arith; in-it = g .4 }
 
+-- an attribute that was read at i: its name from j to e, and where it ends
+pub record Read (s : List ℕ) (i j e w : ℕ) : Type 0 where
+  pub from : i ≤ j
+  pub some : j < e
+  pub on : e < w
+  pub in-it : w ≤ length s
+
+pub attr-read : (s : List ℕ) (i j e v w : ℕ) → attrAt s i ≡ Of j e v w → Read s i j e w
+attr-read s i j e v w q =
+    let g : AttrGoes s i (Of j e v w) = rw q at (attr-goes s i) in
+    let a = g .2 in
+    let b = g .3 in
+    record { from = g .0; some = g .1; on = omega arith; in-it = g .4 }
+
 pub seek-goes : (s w : List ℕ) (stop i : ℕ) → i ≤ length s → StepGoes s i (seekAt s w stop i)
 unfolding seekAt sought
 seek-goes s w stop i l = go (attrAt s i) (attr-goes s i)
@@ -130,6 +145,19 @@ take-goes s a i l = go (attrAt s i) (attr-goes s i)
 
     go : (x : Attr) → AttrGoes s i x → StepGoes s i (taken s a x)
     go (Of j e v w) g = of w (of-goes g) (attrNamed s (part s j (e - j)) a j)
+    go (Last j) g = let x = g .1 in (g .0, omega arith)
+    go None g = tt
+
+pub look-goes : (s t : List ℕ) (i : ℕ) → i ≤ length s → StepGoes s i (lookAt s t i)
+unfolding lookAt looked apart
+look-goes s t i l = go (attrAt s i) (attr-goes s i)
+  where
+    of : (w : ℕ) → Goes s i w → (x : End) → StepGoes s i (apart x w)
+    of w g (At k) = g
+    of w g No = tt
+
+    go : (x : Attr) → AttrGoes s i x → StepGoes s i (looked s t x)
+    go (Of j e v w) g = of w (of-goes g) (way s t (part s j (e - j)))
     go (Last j) g = let x = g .1 in (g .0, omega arith)
     go None g = tt
 

@@ -1,3 +1,5 @@
 pub mod Goes
 pub mod Joins
 pub mod Decoding
+pub mod Trees
+pub mod Keeps

@@ -4,12 +4,13 @@ use pieces::Ref;
 use pieces::Step;
 ghost use mathlib.Core.Path.{_≡_};
 ghost use mathlib.Core.List.{_++_};
-ghost use Prim.Native.Nat.{_+_, _≤_, _<_};
-ghost use lib.ListN.{length};
-ghost use Rattle.octets.specs.Bytes.{same};
+ghost use Prim.Native.Nat.{_+_, _*_, _-_, _≤_, _<_};
+ghost use lib.ListN.{length, getD, set};
+ghost use Rattle.octets.specs.Bytes.{part, same};
 ghost use Rattle.pieces.specs.Walk.{walkAt};
 ghost use Rattle.tags.specs.Attributes.{bitAt, valueAt, decodedAt, equalled, attrAt, seekAt, attrNamed};
 ghost use Rattle.tags.specs.Tags.{takeAt, tailAt, openAt, closeAt};
+ghost use Rattle.tags.specs.Seen.{nodes, cells, turnOf, way, Tree, Added, lookAt};
 
 // An attribute: where its name begins and ends, where its value begins, and where that ends. Or where the attributes end.
 pub enum Attr {
@@ -190,7 +191,7 @@ pub fn find(s: &[u8], lead: &[u8], rest: &[u8], at: usize, stop: usize) -> End
     }
 }
 
-// ---- tags
+// ---- the attributes of a tag
 
 fn take(s: &[u8], a: usize, i: usize) -> Step
     requires { ⌜ a ≤ length (now s) ⌝ }
@@ -210,14 +211,114 @@ fn take(s: &[u8], a: usize, i: usize) -> Step
     }
 }
 
-// Where the attributes end that begin at `at`.
-fn attributes(s: &[u8], at: usize) -> End
+// ---- many attributes
+
+// The names of many attributes are put into a tree as they are read. The way of a name goes from node 0 by its bits, and ends at a node of that name or at a
+// free cell, so that it passes few others, whatever the names are. A node is four cells: where its name begins, where it ends, and the nodes at which the
+// ways go on that turn by 0 and by 1, or 0. Node 0 has no name.
+const NODES: usize = 2048;
+
+const CELLS: usize = 8192;
+
+fn wide(v: u16) -> usize
+    ensures { λ r. ⌜ r ≡ v ⌝ }
+{
+    v as usize
+}
+
+fn cell(t: &[u16; CELLS], x: usize) -> usize
+    requires { ⌜ x < cells ⌝ }
+    ensures { λ r. ⌜ r ≡ getD (now (t .entry)) x 0 ⌝ }
+{
+    wide(t[x])
+}
+
+fn put_cell(t: &mut [u16; CELLS], x: usize, v: usize)
+    requires { ⌜ x < cells ⌝ }
+    requires { ⌜ v < 65536 ⌝ }
+    ensures { λ _. ⌜ now (t .exit) ≡ set (now (t .entry)) x v ⌝ }
+{
+    t[x] = v as u16;
+}
+
+// Bit d of the name w.
+fn turn(w: &[u8], d: usize) -> usize
+    ensures { λ r. ⌜ r ≡ turnOf (now (w .entry)) d ⌝ }
+{
+    ((octets::byte(w, d / 8) >> (d % 8)) % 2) as usize
+}
+
+// The free cell at which the way of w ends, if no node has that name.
+fn place(s: &[u8], w: &[u8], t: &[u16; CELLS]) -> End
+    requires { ⌜ Tree (now s) (now t) nodes ⌝ }
+    ensures { λ r. ⌜ r ≡ way (now (s .entry)) (now (t .entry)) (now (w .entry)) ⌝ }
+{
+    let mut k: usize = 0;
+    let mut d: usize = 0;
+    loop {
+        let from = cell(t, 4 * k);
+        let to = cell(t, 4 * k + 1);
+        if octets::equal(&s[from..to], w) {
+            return End::No;
+        }
+        let x = 4 * k + 2 + turn(w, d);
+        let next = cell(t, x);
+        if next == 0 {
+            return End::At(x);
+        }
+        k = next;
+        d += 1;
+    }
+}
+
+// Makes node n of the name from j to e, unless there is a node of that name.
+fn add(s: &[u8], j: usize, e: usize, t: &mut [u16; CELLS], n: usize) -> bool
+    requires { ⌜ j ≤ e ⌝ }
+    requires { ⌜ e ≤ length (now s) ⌝ }
+    requires { ⌜ length (now s) < 65536 ⌝ }
+    requires { ⌜ n < nodes ⌝ }
+    requires { ⌜ Tree (now s) (now t) n ⌝ }
+    ensures { λ r. ⌜ Added (now (s .entry)) (now (t .entry)) (now (t .exit)) j e n r ⌝ }
+{
+    let p = place(s, &s[j..e], t);
+    match p {
+        End::At(x) => {
+            put_cell(t, x, n);
+            put_cell(t, 4 * n, j);
+            put_cell(t, 4 * n + 1, e);
+            true
+        }
+        End::No => false,
+    }
+}
+
+fn look(s: &[u8], t: &[u16; CELLS], i: usize) -> Step
+    requires { ⌜ Tree (now s) (now t) nodes ⌝ }
+    ensures { λ r. ⌜ r ≡ lookAt (now (s .entry)) (now (t .entry)) i ⌝ }
+{
+    let x = attribute(s, i);
+    match x {
+        Attr::Of(j, e, _, w) => {
+            let p = place(s, &s[j..e], t);
+            match p {
+                End::At(_) => Step::Go(w),
+                End::No => Step::Stuck,
+            }
+        }
+        Attr::Last(j) => Step::Stop(j),
+        Attr::None => Step::Stuck,
+    }
+}
+
+// Where the attributes end that follow `at`, if no node has the name of one.
+fn apart(s: &[u8], t: &[u16; CELLS], at: usize) -> End
     requires { ⌜ at ≤ length (now s) ⌝ }
-    ensures { λ r. ⌜ r ≡ walkAt (takeAt (now (s .entry)) at) (now (s .entry)) at ⌝ }
+    requires { ⌜ Tree (now s) (now t) nodes ⌝ }
+    ensures { λ r. ⌜ r ≡ walkAt (lookAt (now (s .entry)) (now (t .entry))) (now (s .entry)) at ⌝ }
 {
     let mut i = at;
     loop {
-        let b = take(s, at, i);
+        let b = look(s, t, i);
         match b {
             Step::Go(k) => i = k,
             Step::Stop(k) => return End::At(k),
@@ -225,6 +326,66 @@ fn attributes(s: &[u8], at: usize) -> End
         }
     }
 }
+
+// As `attributes`, for any number of them. Those for which the tree has no room are read by themselves, and then looked up in it. (A function that calls itself
+// is not compiled into its callers: the room for the tree is taken where it is needed, and not at each tag.)
+fn many(s: &[u8], at: usize) -> End
+    requires { ⌜ at ≤ length (now s) ⌝ }
+    requires { ⌜ length (now s) < 65536 ⌝ }
+    ensures { λ r. ⌜ r ≡ walkAt (takeAt (now (s .entry)) at) (now (s .entry)) at ⌝ }
+{
+    let mut names = [0u16; CELLS];
+    let mut n: usize = 1;
+    let mut i = at;
+    while n < NODES {
+        let x = attribute(s, i);
+        match x {
+            Attr::Of(j, e, _, w) => {
+                if !add(s, j, e, &mut names, n) {
+                    return End::No;
+                }
+                i = w;
+            }
+            Attr::Last(k) => return End::At(k),
+            Attr::None => return End::No,
+        }
+        n += 1;
+    }
+    let z = many(s, i);
+    match z {
+        End::At(_) => apart(s, &names, i),
+        End::No => End::No,
+    }
+}
+
+// A tag with fewer attributes is read without a tree.
+const FEW: usize = 16;
+
+// Where the attributes end that begin at `at`.
+fn attributes(s: &[u8], at: usize) -> End
+    requires { ⌜ at ≤ length (now s) ⌝ }
+    ensures { λ r. ⌜ r ≡ walkAt (takeAt (now (s .entry)) at) (now (s .entry)) at ⌝ }
+{
+    let mut i = at;
+    let mut n: usize = 0;
+    loop {
+        if n == FEW {
+            // so that each position fits a cell
+            if s.len() < 65536 {
+                return many(s, at);
+            }
+        }
+        let b = take(s, at, i);
+        match b {
+            Step::Go(k) => i = k,
+            Step::Stop(k) => return End::At(k),
+            Step::Stuck => return End::No,
+        }
+        n += 1;
+    }
+}
+
+// ---- tags
 
 fn tail(s: &[u8], a: usize) -> Open
     requires { ⌜ a ≤ length (now s) ⌝ }

@@ -6,13 +6,12 @@ use Prim.Native.Nat.{ℕ}
 use mathlib.Core.Path.{_≡_, refl, ap, ap₂, _∙_}
 use mathlib.Core.Bool.{Bool, true, false, _&&_, _||_, not, Bool·not-not}
 use mathlib.Core.List.{List, [], _∷_, _++_, map}
-use lib.Dec.{eqb}
 use Rattle.octets.specs.Bytes.{pick, every, holds, same}
 use Rattle.octets.specs.Text.{bytes}
 use Rattle.octets.proofs.Tests.{either-way}
 use Rattle.markup.specs.Tree.{Forest}
 use Rattle.values.specs.Value.{small}
-use Rattle.reads.specs.Steps.{english}
+use Rattle.reads.specs.Steps.{english, isNothing}
 use Rattle.gather.specs.Read.{Element, named, infoOf, languageIn, fromEnglish, selection, selected, languagesOk, alertOf}
 use Rattle.message.specs.Judged.{infoOk}
 use Rattle.leaves.proofs.Reals.{AllReal}
@@ -46,7 +45,7 @@ module _ (s p : List ℕ) where
 
   -- ---- the selected info
 
-  english-is : (e : Element) → AllReal s (e .holds) → english s (languageIn s p e) ≡ isEnglish s p e
+  pub english-is : (e : Element) → AllReal s (e .holds) → english s (languageIn s p e) ≡ isEnglish s p e
   unfolding english bytes
   english-is e a = ap (λ (v : List ℕ). same v [] || same (map small v) (bytes "en-us")) (leaf-value s p "language" (e .holds) a)
 
@@ -73,15 +72,15 @@ module _ (s p : List ℕ) where
       selected-held (fromEnglish s p (named s p "info" t)) (named s p "info" t)
       ∙ ap (infoOf s p) (first-held (named s p "info" t) (named s p "info" t) (named-real s p "info" t r))
 
-  pub selected-none : (t : Forest) → eqb (alertOf s p t .kept) 0 ≡ isNone (named s p "info" t)
+  pub selected-none : (t : Forest) → isNothing (alertOf s p t .kept) ≡ isNone (named s p "info" t)
   unfolding alertOf fromEnglish selection
   selected-none t = go (named s p "info" t)
     where
-      any : (xs : List Element) (e : Element) (es : List Element) → eqb (selection xs (e ∷ es)) 0 ≡ false
+      any : (xs : List Element) (e : Element) (es : List Element) → isNothing (selection xs (e ∷ es)) ≡ false
       any [] e es = refl
       any (x ∷ xs) e es = refl
 
-      go : (es : List Element) → eqb (selection (fromEnglish s p es) es) 0 ≡ isNone es
+      go : (es : List Element) → isNothing (selection (fromEnglish s p es) es) ≡ isNone es
       go [] = refl
       go (e ∷ es) = any (fromEnglish s p (e ∷ es)) e es
 

@@ -10,27 +10,28 @@ use mathlib.Core.Bool.{Bool, true, false, _&&_, not}
 use mathlib.Core.List.{List, [], _∷_, foldl, map}
 use native.Mathlib.Omega.{arith}
 use lib.ListN.{length}
-use lib.Dec.{eqb}
 use Rattle.octets.specs.Bytes.{pick, every, same}
 use Rattle.octets.specs.Text.{bytes}
-use Rattle.octets.proofs.Tests.{either-way}
 use Rattle.markup.specs.Tree.{Forest}
 use Rattle.values.specs.Value.{valueAt}
 use Rattle.reads.specs.Leaves.{blank, noInfo}
-use Rattle.reads.specs.Names.{among, inside}
+use Rattle.reads.specs.Names.{infoInside, among, inside}
 use Rattle.reads.specs.Steps.{english}
 use Rattle.reads.specs.declared.Leaf as reads
 use Rattle.reads.specs.declared.Locations.{Locations}
+use Rattle.reads.specs.declared.Kept.{Kept}
+use Rattle.reads.specs.declared.Kept.the-variants.{Nothing, First, Selected}
 use Rattle.reads.specs.declared.Context.{Context}
 use Rattle.reads.specs.declared.Context.the-variants as ctx
 use Rattle.gather.specs.Read.{Element, named, bare, placeIn, markedIf, added, leafIn, event, parameter, location, resource, area, infoOf}
 use Rattle.gather.specs.Read.{languageIn, fromEnglish, selection, selected, languagesOk, alertOf}
 use Rattle.leaves.proofs.Reals.{Real, AllReal}
 use Rattle.leaves.proofs.Places.{Reals, named-real}
+use Rattle.told.proofs.Alerts.{english-is}
 use Rattle.unread.specs.Kept.{Leaf, leafBy, leafy, inner, kindOf, keptIn, keptFrom}
 use Rattle.unread.proofs.Alike.{both-ways, LeafAs, EventsAs, ParametersAs, AudioAs, InfoAs, AlertAs, blank-as, no-info-as, no-events-as}
 use Rattle.unread.proofs.Alike.{no-parameters-as, no-audio-as, marked-as, found-as, sound-as, english-as, event-as, parameter-as, location-as, audio-as}
-use Rattle.unread.proofs.Keeps.{leavesOf, nodesOf, inBy, leaves-kept, nodes-kept, infoAs, afterInfo, leaves-from, infosFrom, nodes-from}
+use Rattle.unread.proofs.Keeps.{leavesOf, nodesOf, inBy, leaves-kept, nodes-kept, afterInfo, leaves-from, infosFrom, nodes-from}
 
 -- an element of the message s
 abbrev Stands : List ℕ → Element → Type 0
@@ -57,6 +58,10 @@ fold-as s r R f g a b k (d ∷ ds) [] hs ks q x y h = absurd (none-some (sym q))
 fold-as s r R f g a b k (d ∷ ds) (e ∷ es) hs ks q x y h =
     fold-as s r R f g a b k ds es (hs .2) (ks .2) (tail-is q) (f x d) (g y e) (k x y d e (hs .0, hs .1) (ks .0, ks .1) (head-is q) h)
 
+-- behind an info in another language it stays as before it
+stays : (s p : List ℕ) (n : Kept) (e : Element) → AllReal s (e .holds) → english s (languageIn s p e) ≡ false → afterInfo s p n e ≡ n
+stays s p n e r h = ap (λ (b : Bool). pick b Selected n) (sym (english-is s p e r) ∙ h)
+
 module _ (s p r q : List ℕ) where
   -- ---- leaves
 
@@ -77,11 +82,11 @@ module _ (s p r q : List ℕ) where
 
   module _ (c : Context) (t u : Forest) (hs : AllReal s t) (ks : AllReal r u) (z : keptIn s p c t ≡ keptIn r q c u) where
     -- a leaf that is read there
-    leaf-in : (w : String) → kindOf (inside 0 c (bytes w)) ≡ leafy → LeafAs s r (leafIn s p w t) (leafIn r q w u)
+    leaf-in : (w : String) → kindOf (inside Nothing c (bytes w)) ≡ leafy → LeafAs s r (leafIn s p w t) (leafIn r q w u)
     leaf-in w i = leaf-as w t u hs ks (leaves-kept s p c w i t ∙ ap (leavesOf w) z ∙ sym (leaves-kept r q c w i u))
 
     -- elements that are read there otherwise, in a context d of their own
-    nodes-in : (d : Context) (w : String) → inside 0 c (bytes w) ≡ d → kindOf d ≡ inner →
+    nodes-in : (d : Context) (w : String) → inside Nothing c (bytes w) ≡ d → kindOf d ≡ inner →
         {A B : Type 0} (R : A → B → Type 0) (f : A → Element → A) (g : B → Element → B) →
         ((x : A) (y : B) (a b : Element) → Stands s a → Stands r b → inBy s p d a ≡ inBy r q d b → R x y → R (f x a) (g y b)) →
         (x : A) (y : B) → R x y → R (foldl f x (named s p w t)) (foldl g y (named r q w u))
@@ -90,7 +95,7 @@ module _ (s p r q : List ℕ) where
         (nodes-kept s p c d w i j t ∙ ap (nodesOf w) z ∙ sym (nodes-kept r q c d w i j u))
 
   -- the leaf of a pair
-  of-pair : (d : Context) (w : String) → kindOf (inside 0 d (bytes w)) ≡ leafy → (a b : Element) → Stands s a → Stands r b → inBy s p d a ≡ inBy r q d b →
+  of-pair : (d : Context) (w : String) → kindOf (inside Nothing d (bytes w)) ≡ leafy → (a b : Element) → Stands s a → Stands r b → inBy s p d a ≡ inBy r q d b →
       LeafAs s r (leafIn s p w (a .holds)) (leafIn r q w (b .holds))
   of-pair d w i a b hs ks z = leaf-in d (a .holds) (b .holds) (hs .1) (ks .1) z w i
 
@@ -132,16 +137,17 @@ module _ (s p r q : List ℕ) where
   -- ---- infos, one after the other
 
   -- the language, before the first info in English and behind it
-  language-as : (n : ℕ) (a b : Element) → Stands s a → Stands r b → inBy s p (infoAs n) a ≡ inBy r q (infoAs n) b →
+  language-as : (n : Kept) (a b : Element) → Stands s a → Stands r b → inBy s p (infoInside n) a ≡ inBy r q (infoInside n) b →
       LeafAs s r (languageIn s p a) (languageIn r q b)
   unfolding inside among same bytes kindOf
-  language-as n a b hs ks =
-      either-way (λ (c : Context). inBy s p c a ≡ inBy r q c b → LeafAs s r (languageIn s p a) (languageIn r q b)) (eqb n 2) ctx.Later ctx.Info
-      (λ _. of-pair ctx.Later "language" refl a b hs ks) (λ _. of-pair ctx.Info "language" refl a b hs ks)
+  language-as Nothing a b hs ks = of-pair ctx.Info "language" refl a b hs ks
+  language-as First a b hs ks = of-pair ctx.Info "language" refl a b hs ks
+  language-as Selected a b hs ks = of-pair ctx.Later "language" refl a b hs ks
 
   -- so that both go on alike
-  next-as : (n : ℕ) (a b : Element) → LeafAs s r (languageIn s p a) (languageIn r q b) → afterInfo s p n (a .holds) ≡ afterInfo r q n (b .holds)
-  next-as n a b l = ap (λ (e : Bool). pick e 2 n) (english-as s r _ _ l)
+  next-as : (n : Kept) (a b : Element) → AllReal s (a .holds) → AllReal r (b .holds) → LeafAs s r (languageIn s p a) (languageIn r q b) →
+      afterInfo s p n a ≡ afterInfo r q n b
+  next-as n a b x y l = ap (λ (e : Bool). pick e Selected n) (sym (english-is s p a x) ∙ english-as s r _ _ l ∙ english-is r q b y)
 
   abbrev some : List Element → Bool
   some [] = false
@@ -153,14 +159,14 @@ module _ (s p r q : List ℕ) where
     in-english : some (fromEnglish s p ds) ≡ some (fromEnglish r q es)
     sound : languagesOk s p ds ≡ languagesOk r q es
 
-  infos-as : (n : ℕ) (ds es : List Element) → Reals s ds → Reals r es → infosFrom s p n ds ≡ infosFrom r q n es → InfosAs ds es
+  infos-as : (n : Kept) (ds es : List Element) → Reals s ds → Reals r es → infosFrom s p n ds ≡ infosFrom r q n es → InfosAs ds es
   unfolding fromEnglish every
   infos-as n [] [] hs ks z = record { any = refl; in-english = refl; sound = refl }
   infos-as n [] (e ∷ es) hs ks z = absurd (none-some z)
   infos-as n (d ∷ ds) [] hs ks z = absurd (none-some (sym z))
   infos-as n (d ∷ ds) (e ∷ es) hs ks z =
       let l = language-as n d e (hs .0, hs .1) (ks .0, ks .1) (head-is z) in
-      go l (infos-as (afterInfo s p n (d .holds)) ds es (hs .2) (ks .2) (tail-is z ∙ ap (λ (m : ℕ). infosFrom r q m es) (sym (next-as n d e l))))
+      go l (infos-as (afterInfo s p n d) ds es (hs .2) (ks .2) (tail-is z ∙ ap (λ (m : Kept). infosFrom r q m es) (sym (next-as n d e (hs .1) (ks .1) l))))
     where
       Both : List Element → List Element → Type 0
       Both x y = some x ≡ some y
@@ -179,7 +185,7 @@ module _ (s p r q : List ℕ) where
   SelectedAs x xs y ys = InfoAs s r (selected s p x xs) (selected r q y ys)
 
   -- the first of all
-  first-as : (ds es : List Element) → Reals s ds → Reals r es → infosFrom s p 0 ds ≡ infosFrom r q 0 es → SelectedAs [] ds [] es
+  first-as : (ds es : List Element) → Reals s ds → Reals r es → infosFrom s p Nothing ds ≡ infosFrom r q Nothing es → SelectedAs [] ds [] es
   unfolding selected
   first-as [] [] hs ks z = no-info-as s r
   first-as [] (e ∷ es) hs ks z = absurd (none-some z)
@@ -187,23 +193,24 @@ module _ (s p r q : List ℕ) where
   first-as (d ∷ ds) (e ∷ es) hs ks z = info-as (d .holds) (e .holds) (hs .1) (ks .1) (head-is z)
 
   -- the first in English, or else that one
-  selected-as : (xs ys : List Element) → SelectedAs [] xs [] ys → (ds es : List Element) → Reals s ds → Reals r es → infosFrom s p 0 ds ≡ infosFrom r q 0 es →
+  selected-as : (xs ys : List Element) → SelectedAs [] xs [] ys → (ds es : List Element) → Reals s ds → Reals r es → infosFrom s p Nothing ds ≡ infosFrom r q Nothing es →
       SelectedAs (fromEnglish s p ds) xs (fromEnglish r q es) ys
   unfolding fromEnglish selected
   selected-as xs ys f [] [] hs ks z = f
   selected-as xs ys f [] (e ∷ es) hs ks z = absurd (none-some z)
   selected-as xs ys f (d ∷ ds) [] hs ks z = absurd (none-some (sym z))
   selected-as xs ys f (d ∷ ds) (e ∷ es) hs ks z =
-      let l = language-as 0 d e (hs .0, hs .1) (ks .0, ks .1) (head-is z) in
+      let l = language-as Nothing d e (hs .0, hs .1) (ks .0, ks .1) (head-is z) in
       go (english s (languageIn s p d)) refl (english-as s r _ _ l) (selected-as xs ys f ds es (hs .2) (ks .2))
     where
       go : (b : Bool) → english s (languageIn s p d) ≡ b → english s (languageIn s p d) ≡ english r (languageIn r q e) →
-          (infosFrom s p 0 ds ≡ infosFrom r q 0 es → SelectedAs (fromEnglish s p ds) xs (fromEnglish r q es) ys) →
+          (infosFrom s p Nothing ds ≡ infosFrom r q Nothing es → SelectedAs (fromEnglish s p ds) xs (fromEnglish r q es) ys) →
           SelectedAs (fromEnglish s p (d ∷ ds)) xs (fromEnglish r q (e ∷ es)) ys
       go true b a k = rw (b, sym a ∙ b) (info-as (d .holds) (e .holds) (hs .1) (ks .1) (head-is z))
-      go false b a k = rw (b, sym a ∙ b) (k (rw (b, sym a ∙ b) at (tail-is z)))
+      go false b a k =
+          rw (b, sym a ∙ b) (k (rw (stays s p Nothing d (hs .1) b, stays r q Nothing e (ks .1) (sym a ∙ b)) at (tail-is z)))
 
-  selection-is : (xs es : List Element) → selection xs es ≡ pick (some xs) 2 (pick (some es) 1 0)
+  selection-is : (xs es : List Element) → selection xs es ≡ pick (some xs) Selected (pick (some es) First Nothing)
   unfolding selection
   selection-is [] [] = refl
   selection-is [] (e ∷ es) = refl
@@ -215,9 +222,9 @@ module _ (s p r q : List ℕ) where
 
   -- ---- an alert
 
-  module _ (t u : Forest) (hs : AllReal s t) (ks : AllReal r u) (z : keptFrom s p 0 t ≡ keptFrom r q 0 u) where
-    leaf-from : (w : String) → ((n : ℕ) → kindOf (inside n ctx.Alert (bytes w)) ≡ leafy) → LeafAs s r (leafIn s p w t) (leafIn r q w u)
-    leaf-from w i = leaf-as w t u hs ks (leaves-from s p w i 0 t ∙ ap (leavesOf w) z ∙ sym (leaves-from r q w i 0 u))
+  module _ (t u : Forest) (hs : AllReal s t) (ks : AllReal r u) (z : keptFrom s p Nothing t ≡ keptFrom r q Nothing u) where
+    leaf-from : (w : String) → ((n : Kept) → kindOf (inside n ctx.Alert (bytes w)) ≡ leafy) → LeafAs s r (leafIn s p w t) (leafIn r q w u)
+    leaf-from w i = leaf-as w t u hs ks (leaves-from s p w i Nothing t ∙ ap (leavesOf w) z ∙ sym (leaves-from r q w i Nothing u))
 
     pub alert-as : AlertAs s r (alertOf s p t) (alertOf r q u)
     unfolding alertOf inside among same bytes kindOf
@@ -226,8 +233,8 @@ module _ (s p r q : List ℕ) where
         let es = named r q "info" u in
         let js = named-real s p "info" t hs in
         let ks′ = named-real r q "info" u ks in
-        let y = nodes-from s p 0 t ∙ ap (nodesOf "info") z ∙ sym (nodes-from r q 0 u) in
-        let h = infos-as 0 ds es js ks′ y in
+        let y = nodes-from s p Nothing t ∙ ap (nodesOf "info") z ∙ sym (nodes-from r q Nothing u) in
+        let h = infos-as Nothing ds es js ks′ y in
         record {
           identifier = leaf-from "identifier" (λ n. refl);
           sender = leaf-from "sender" (λ n. refl);

@@ -58,7 +58,7 @@ module _ (s r : List ℕ) where
 
     left-as : alertBy s j ≡ alertBy r k
     unfolding alertBy
-    left-as = rw (own-as, header-as, h .quiet, h .message .kind, h .message .alert .references .value)
+    left-as = rw (own-as, header-as, h .quiet, h .message .msgType, h .message .alert .references .value)
 
   module _ (d : OnlyUnreadDiffers s r) where
     h : JudgedAs s r (judgedOf s) (judgedOf r)

@@ -42,7 +42,7 @@ module _ (s r : List ℕ) where
 
     quiet-as : quietOf m ≡ quietOf n
     unfolding quietOf
-    quiet-as = rw (h .kind, h .alert .kept, i .events .same .count, i .locations, i .expires .count)
+    quiet-as = rw (h .msgType, h .alert .kept, i .events .same .count, i .locations, i .expires .count)
 
     lasting-as : lasting s m ≡ lasting r n
     lasting-as = seconds-as (expiresIn m) (expiresIn n) (m .sent) (n .sent) (i .expires) (h .sent)

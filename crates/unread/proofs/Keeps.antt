@@ -6,17 +6,17 @@ use Prim.Native.String.{String}
 use mathlib.Core.Path.{_≡_, refl, sym, ap, ap₂, _∙_}
 use mathlib.Core.Bool.{Bool, true, false, _&&_}
 use mathlib.Core.List.{List, [], _∷_, map}
-use lib.Dec.{eqb}
 use Rattle.octets.specs.Bytes.{pick, same}
 use Rattle.octets.specs.Text.{bytes}
 use Rattle.octets.proofs.Sames.{same-is}
-use Rattle.octets.proofs.Tests.{either-way}
 use Rattle.markup.specs.Tree.{Tag, Forest, nil, text, elem}
-use Rattle.reads.specs.Names.{among, inside}
-use Rattle.reads.specs.Steps.{english}
+use Rattle.reads.specs.Names.{infoInside, among, inside}
+use Rattle.reads.specs.declared.Kept as infos
+use Rattle.reads.specs.declared.Kept.the-variants.{Nothing, First, Selected}
 use Rattle.reads.specs.declared.Context.{Context}
 use Rattle.reads.specs.declared.Context.the-variants as ctx
-use Rattle.gather.specs.Read.{Element, nameIn, keep, named, leafIn}
+use Rattle.gather.specs.Read.{Element, nameIn, keep, named}
+use Rattle.told.specs.Values.{isEnglish}
 use Rattle.unread.specs.Kept.{Leaf, leafBy, Kept, done, leaf, node, Kind, skipped, leafy, inner, kindOf, keptAs, keptIn, nextTo, keptFrom}
 
 -- ---- by name, in what is kept
@@ -69,21 +69,21 @@ el g kids = record { tag = g; holds = kids }
 
 module _ (s p : List ℕ) where
   -- the leaves of a name that is read as one in the context c
-  pub leaves-kept : (c : Context) (w : String) → kindOf (inside 0 c (bytes w)) ≡ leafy → (t : Forest) →
+  pub leaves-kept : (c : Context) (w : String) → kindOf (inside Nothing c (bytes w)) ≡ leafy → (t : Forest) →
       map (leafBy s) (named s p w t) ≡ leavesOf w (keptIn s p c t)
   unfolding named keptIn
   leaves-kept c w i nil = refl
   leaves-kept c w i (text a b rest) = leaves-kept c w i rest
   leaves-kept c w i (elem g kids rest) =
-      leaf-step w (nameIn s p g) _ _ _ s (el g kids) (named s p w rest) refl (kindOf (inside 0 c (nameIn s p g)))
-      (λ e. ap (λ (n : List ℕ). kindOf (inside 0 c n)) e ∙ i) (leaves-kept c w i rest)
+      leaf-step w (nameIn s p g) _ _ _ s (el g kids) (named s p w rest) refl (kindOf (inside Nothing c (nameIn s p g)))
+      (λ e. ap (λ (n : List ℕ). kindOf (inside Nothing c n)) e ∙ i) (leaves-kept c w i rest)
 
   -- what is kept of what an element of the context d holds
   abbrev pub inBy : Context → Element → Kept
   inBy d e = keptIn s p d (e .holds)
 
   -- the elements of a name that is read otherwise there
-  pub nodes-kept : (c d : Context) (w : String) → inside 0 c (bytes w) ≡ d → kindOf d ≡ inner → (t : Forest) →
+  pub nodes-kept : (c d : Context) (w : String) → inside Nothing c (bytes w) ≡ d → kindOf d ≡ inner → (t : Forest) →
       map (inBy d) (named s p w t) ≡ nodesOf w (keptIn s p c t)
   unfolding named keptIn
   nodes-kept c d w i j nil = refl
@@ -94,52 +94,50 @@ module _ (s p : List ℕ) where
       n = nameIn s p g
 
       x : Context
-      x = inside 0 c n
+      x = inside Nothing c n
 
       go : (b : Bool) → same n (bytes w) ≡ b → map (inBy d) (named s p w rest) ≡ nodesOf w (keptIn s p c rest) →
           map (inBy d) (keep b (el g kids) (named s p w rest))
           ≡ nodesOf w (keptAs (kindOf x) n (leafBy s (el g kids)) (keptIn s p x kids) (keptIn s p c rest))
       go true e f =
-          let q : x ≡ d = ap (inside 0 c) (same-is n (bytes w) e) ∙ i in
+          let q : x ≡ d = ap (inside Nothing c) (same-is n (bytes w) e) ∙ i in
           ap₂ (λ (a : Kept) (y : List Kept). a ∷ y) (ap (λ (z : Context). keptIn s p z kids) (sym q)) f
           ∙ sym (this-node w n _ _ _ (kindOf x) (ap kindOf q ∙ j) e)
       go false e f = f ∙ sym (other-node w n _ _ _ (kindOf x) e)
 
 -- ---- in the alert
 
--- the context inside an info: behind the first that is English, where n is 2, a later one
-abbrev pub infoAs : ℕ → Context
-infoAs n = pick (eqb n 2) ctx.Later ctx.Info
-
 module _ (s p : List ℕ) where
-  pub leaves-from : (w : String) → ((n : ℕ) → kindOf (inside n ctx.Alert (bytes w)) ≡ leafy) → (n : ℕ) (t : Forest) →
+  pub leaves-from : (w : String) → ((n : infos.Kept) → kindOf (inside n ctx.Alert (bytes w)) ≡ leafy) → (n : infos.Kept) (t : Forest) →
       map (leafBy s) (named s p w t) ≡ leavesOf w (keptFrom s p n t)
   unfolding named keptFrom
   leaves-from w i n nil = refl
   leaves-from w i n (text a b rest) = leaves-from w i n rest
   leaves-from w i n (elem g kids rest) =
       leaf-step w (nameIn s p g) _ _ _ s (el g kids) (named s p w rest) refl (kindOf (inside n ctx.Alert (nameIn s p g)))
-      (λ e. ap (λ (x : List ℕ). kindOf (inside n ctx.Alert x)) e ∙ i n) (leaves-from w i (nextTo s p n g kids) rest)
+      (λ e. ap (λ (x : List ℕ). kindOf (inside n ctx.Alert x)) e ∙ i n) (leaves-from w i (nextTo s p n (el g kids)) rest)
 
   -- behind an info
-  abbrev pub afterInfo : ℕ → Forest → ℕ
-  afterInfo n t = pick (english s (leafIn s p "language" t)) 2 n
+  abbrev pub afterInfo : infos.Kept → Element → infos.Kept
+  afterInfo n e = pick (isEnglish s p e) Selected n
 
   -- what is kept of infos, one after the other
-  abbrev pub infosFrom : ℕ → List Element → List Kept
+  abbrev pub infosFrom : infos.Kept → List Element → List Kept
   infosFrom n [] = []
-  infosFrom n (e ∷ es) = keptIn s p (infoAs n) (e .holds) ∷ infosFrom (afterInfo n (e .holds)) es
+  infosFrom n (e ∷ es) = keptIn s p (infoInside n) (e .holds) ∷ infosFrom (afterInfo n e) es
 
   -- no info is skipped
-  info-inner : (n : ℕ) → kindOf (infoAs n) ≡ inner
+  info-inner : (n : infos.Kept) → kindOf (infoInside n) ≡ inner
   unfolding kindOf
-  info-inner n = either-way (λ (c : Context). kindOf c ≡ inner) (eqb n 2) ctx.Later ctx.Info (λ _. refl) (λ _. refl)
+  info-inner Nothing = refl
+  info-inner First = refl
+  info-inner Selected = refl
 
-  info-at : (n : ℕ) → inside n ctx.Alert (bytes "info") ≡ infoAs n
+  info-at : (n : infos.Kept) → inside n ctx.Alert (bytes "info") ≡ infoInside n
   unfolding inside among same bytes
   info-at n = refl
 
-  pub nodes-from : (n : ℕ) (t : Forest) → infosFrom n (named s p "info" t) ≡ nodesOf "info" (keptFrom s p n t)
+  pub nodes-from : (n : infos.Kept) (t : Forest) → infosFrom n (named s p "info" t) ≡ nodesOf "info" (keptFrom s p n t)
   unfolding named keptFrom
   nodes-from n nil = refl
   nodes-from n (text a b rest) = nodes-from n rest
@@ -151,15 +149,15 @@ module _ (s p : List ℕ) where
       d : Context
       d = inside n ctx.Alert w
 
-      go : (b : Bool) → same w (bytes "info") ≡ b → ((m : ℕ) → infosFrom m (named s p "info" rest) ≡ nodesOf "info" (keptFrom s p m rest)) →
+      go : (b : Bool) → same w (bytes "info") ≡ b → ((m : infos.Kept) → infosFrom m (named s p "info" rest) ≡ nodesOf "info" (keptFrom s p m rest)) →
           infosFrom n (keep b (el g kids) (named s p "info" rest))
-          ≡ nodesOf "info" (keptAs (kindOf d) w (leafBy s (el g kids)) (keptIn s p d kids) (keptFrom s p (nextTo s p n g kids) rest))
+          ≡ nodesOf "info" (keptAs (kindOf d) w (leafBy s (el g kids)) (keptIn s p d kids) (keptFrom s p (nextTo s p n (el g kids)) rest))
       go true e f =
-          let q : d ≡ infoAs n = ap (inside n ctx.Alert) (same-is w (bytes "info") e) ∙ info-at n in
-          let m : nextTo s p n g kids ≡ afterInfo n kids = ap (λ (b : Bool). pick (b && english s (leafIn s p "language" kids)) 2 n) e in
+          let q : d ≡ infoInside n = ap (inside n ctx.Alert) (same-is w (bytes "info") e) ∙ info-at n in
+          let m : nextTo s p n (el g kids) ≡ afterInfo n (el g kids) = ap (λ (b : Bool). pick (b && isEnglish s p (el g kids)) Selected n) e in
           ap₂ (λ (a : Kept) (y : List Kept). a ∷ y) (ap (λ (z : Context). keptIn s p z kids) (sym q))
-          (f (afterInfo n kids) ∙ ap (λ (z : ℕ). nodesOf "info" (keptFrom s p z rest)) (sym m))
+          (f (afterInfo n (el g kids)) ∙ ap (λ (z : infos.Kept). nodesOf "info" (keptFrom s p z rest)) (sym m))
           ∙ sym (this-node "info" w _ _ _ (kindOf d) (ap kindOf q ∙ info-inner n) e)
       go false e f =
-          let m : nextTo s p n g kids ≡ n = ap (λ (b : Bool). pick (b && english s (leafIn s p "language" kids)) 2 n) e in
-          f n ∙ ap (λ (z : ℕ). nodesOf "info" (keptFrom s p z rest)) (sym m) ∙ sym (other-node "info" w _ _ _ (kindOf d) e)
+          let m : nextTo s p n (el g kids) ≡ n = ap (λ (b : Bool). pick (b && isEnglish s p (el g kids)) Selected n) e in
+          f n ∙ ap (λ (z : infos.Kept). nodesOf "info" (keptFrom s p z rest)) (sym m) ∙ sym (other-node "info" w _ _ _ (kindOf d) e)

@@ -13,7 +13,8 @@ use Rattle.reads.specs.declared.Leaf as read-leaf
 use Rattle.reads.specs.declared.Info as read-info
 use Rattle.reads.specs.declared.Alert as read-alert
 use Rattle.message.specs.Root.{prefixOf, rootOk}
-use Rattle.message.specs.Judged.{leafAt, onlyOf, identified, timed, valued, statusOf, msgTypeOf, scopeOf, infoOk, fieldOf, referenced, numberWith, numberOf}
+use Rattle.reads.specs.Leaves.{sentLeaf}
+use Rattle.message.specs.Judged.{onlyOf, identified, timed, valued, typed, statusOf, msgTypeOf, scopeOf, infoOk, fieldOf, referenced, numberWith, numberOf}
 use Rattle.message.specs.Message.{refusedAs, judged, passed, ofRoot, messageOf}
 use Rattle.message.specs.declared.Message.{Message}
 use Rattle.leaves.proofs.Reals.{leaf-is}
@@ -26,7 +27,7 @@ module _ (s r : List ℕ) where
   pub record MessageAs (m n : Message) : Type 0 where
     pub number : m .number ≡ n .number
     pub field : m .field ≡ n .field
-    pub kind : m .kind ≡ n .kind
+    pub msgType : m .«msg_type» ≡ n .«msg_type»
     pub sent : m .sent ≡ n .sent
     pub alert : AlertAs s r (m .alert) (n .alert)
 
@@ -47,6 +48,10 @@ module _ (s r : List ℕ) where
   valued-as : (ws : List String) (l m : read-leaf.Leaf) → LeafAs s r l m → valued s ws l ≡ valued r ws m
   unfolding valued
   valued-as ws l m h = rw (only-as l m h, h .value)
+
+  typed-as : (l m : read-leaf.Leaf) → LeafAs s r l m → typed s l ≡ typed r m
+  unfolding typed
+  typed-as l m h = rw (only-as l m h, h .value)
 
   pub referenced-as : (l m : read-leaf.Leaf) → LeafAs s r l m → referenced s l ≡ referenced r m
   unfolding referenced
@@ -72,28 +77,28 @@ module _ (s r : List ℕ) where
     status-as : statusOf s a ≡ statusOf r b
     status-as = valued-as _ _ _ (h .status)
 
-    kind-as : msgTypeOf s a ≡ msgTypeOf r b
-    kind-as = valued-as _ _ _ (h .msgType)
+    msg-type-as : msgTypeOf s a ≡ msgTypeOf r b
+    msg-type-as = typed-as _ _ (h .msgType)
 
     scope-as : scopeOf s a ≡ scopeOf r b
     scope-as = valued-as _ _ _ (h .scope)
 
-    sent-as : timed s (leafAt 2 a) ≡ timed r (leafAt 2 b)
+    sent-as : timed s (sentLeaf a) ≡ timed r (sentLeaf b)
     sent-as = timed-as _ _ (h .sent)
 
     field-as : fieldOf s a ≡ fieldOf r b
-    field-as = rw (identified-as _ _ (h .identifier), identified-as _ _ (h .sender), sent-as, status-as, kind-as, scope-as, h .fault, info-ok-as _ _ (h .info))
+    field-as = rw (identified-as _ _ (h .identifier), identified-as _ _ (h .sender), sent-as, status-as, msg-type-as, scope-as, h .fault, info-ok-as _ _ (h .info))
 
     number-as : numberOf s a ≡ numberOf r b
     unfolding numberWith
-    number-as = rw (field-as, status-as, scope-as, kind-as, referenced-as _ _ (h .references))
+    number-as = rw (field-as, status-as, scope-as, msg-type-as, referenced-as _ _ (h .references))
 
     judged-as : MessageAs (judged s a) (judged r b)
     unfolding judged
-    judged-as = record { number = number-as; field = field-as; kind = kind-as; sent = ap instantIn sent-as; alert = h }
+    judged-as = record { number = number-as; field = field-as; msgType = msg-type-as; sent = ap instantIn sent-as; alert = h }
 
   refused-as : (n : ℕ) → MessageAs (refusedAs (length s) n) (refusedAs (length r) n)
-  refused-as n = record { number = refl; field = refl; kind = refl; sent = refl; alert = fresh-as s r }
+  refused-as n = record { number = refl; field = refl; msgType = refl; sent = refl; alert = fresh-as s r }
 
 -- ---- two messages
 

@@ -11,11 +11,13 @@ use Rattle.octets.specs.Text.{bytes}
 use Rattle.markup.specs.Tree.{Tag, Forest, nil, text, elem, One, one, none}
 use Rattle.markup.specs.Document.{docAt}
 use Rattle.reads.specs.Names.{inside}
-use Rattle.reads.specs.Steps.{english}
+use Rattle.reads.specs.declared.Kept as infos
+use Rattle.reads.specs.declared.Kept.the-variants.{Nothing, Selected}
 use Rattle.reads.specs.declared.Context.{Context}
 use Rattle.reads.specs.declared.Context.the-variants as ctx
-use Rattle.gather.specs.Read.{Element, nameIn, bare, leafIn}
+use Rattle.gather.specs.Read.{Element, nameIn, bare}
 use Rattle.leaves.specs.Leaf.{leafValue}
+use Rattle.told.specs.Values.{isEnglish}
 use Rattle.message.specs.Root.{prefixOf}
 use Rattle.demands.specs.Numbers.{isRead, rootIs}
 
@@ -71,25 +73,26 @@ keptIn s p c nil = done
 keptIn s p c (text i j rest) = keptIn s p c rest
 keptIn s p c (elem g kids rest) =
     let w = nameIn s p g in
-    keptAs (kindOf (inside 0 c w)) w (leafBy s (record { tag = g; holds = kids })) (keptIn s p (inside 0 c w) kids) (keptIn s p c rest)
+    keptAs (kindOf (inside Nothing c w)) w (leafBy s (record { tag = g; holds = kids })) (keptIn s p (inside Nothing c w) kids) (keptIn s p c rest)
 
--- behind an info whose language is absent, empty or `en-US` the infos are later ones (2)
-abbrev pub nextTo : List ℕ → List ℕ → ℕ → Tag → Forest → ℕ
-nextTo s p n g t = pick (same (nameIn s p g) (bytes "info") && english s (leafIn s p "language" t)) 2 n
+-- behind an info whose language is absent, empty or `en-US`, which is selected, the infos are later ones
+abbrev pub nextTo : List ℕ → List ℕ → infos.Kept → Element → infos.Kept
+nextTo s p n e = pick (same (nameIn s p (e .tag)) (bytes "info") && isEnglish s p e) Selected n
 
 -- what is kept of what the alert holds; in a later info every element but language is skipped
-unfoldable pub keptFrom : List ℕ → List ℕ → ℕ → Forest → Kept
+unfoldable pub keptFrom : List ℕ → List ℕ → infos.Kept → Forest → Kept
 keptFrom s p n nil = done
 keptFrom s p n (text i j rest) = keptFrom s p n rest
 keptFrom s p n (elem g kids rest) =
     let w = nameIn s p g in
     let c = inside n ctx.Alert w in
-    keptAs (kindOf c) w (leafBy s (record { tag = g; holds = kids })) (keptIn s p c kids) (keptFrom s p (nextTo s p n g kids) rest)
+    keptAs (kindOf c) w (leafBy s (record { tag = g; holds = kids })) (keptIn s p c kids)
+    (keptFrom s p (nextTo s p n (record { tag = g; holds = kids })) rest)
 
 -- what is kept of a message's document
 unfoldable pub keptOf : List ℕ → One → Kept
 keptOf s none = done
-keptOf s (one g kids e) = keptFrom s (prefixOf s (g .from + 1) (g .name)) 0 kids
+keptOf s (one g kids e) = keptFrom s (prefixOf s (g .from + 1) (g .name)) Nothing kids
 
 -- ---- two messages
 

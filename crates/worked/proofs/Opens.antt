@@ -28,13 +28,13 @@ use Rattle.clock.specs.Period.{atMost, periodOf, up}
 use Rattle.clock.specs.Stamp.{begun, dayOf, stampOf, yearOf}
 use Rattle.clock.specs.Time.{isSign, signed, since2000, timeOf, utc, within}
 use Rattle.clock.specs.Written.{jjjhhmm, tttt}
-use Rattle.fields.specs.Fields.{identityOk, indexIn, isIdentity}
+use Rattle.fields.specs.Fields.{identityOk, indexIn, isIdentity, msgTypeIn}
 use Rattle.fields.specs.References.{behind, groupOk, referencesOk, upTo, words}
 use Rattle.parts.specs.Originator.{originatorBytes, originatorOf}
 use Rattle.parts.specs.Parts.{eventOk, isPeriod, isStation, isZero, stationOk}
 use Rattle.header.specs.Body.{bodyBytes, bodyForm, headForm, lengthForm, locationsBytes, locationsForm, periodForm, timeForm, timesBytes}
 use Rattle.header.specs.Header.{headerBytes}
-use Rattle.message.specs.Judged.{identified, infoOk, numberWith, onlyOf, referenced, timed}
+use Rattle.message.specs.Judged.{identified, infoOk, numberWith, onlyOf, referenced, timed, typed}
 use Rattle.message.specs.Judged as message-judged
 use Rattle.message.specs.Message.{judged, messageOf, ofRoot}
 use Rattle.message.specs.Message as message-message
@@ -95,11 +95,11 @@ unfolding alertOf bare fromEnglish infoOf named selected selection placeOf
 gather-opens = tt
 
 fields-opens : Unit {0}
-unfolding identityOk indexIn isIdentity behind groupOk referencesOk upTo words
+unfolding identityOk indexIn isIdentity msgTypeIn behind groupOk referencesOk upTo words
 fields-opens = tt
 
 message-opens : Unit {0}
-unfolding identified infoOk numberWith onlyOf referenced timed message-judged.valued judged messageOf ofRoot message-message.passed beforeColon colonAt
+unfolding identified infoOk numberWith onlyOf referenced timed typed message-judged.valued judged messageOf ofRoot message-message.passed beforeColon colonAt
     isNamespace prefixOf rootOk rootWith xmlnsOf
 message-opens = tt
 

@@ -1,117 +1,39 @@
--- The names are tried in their order, and each that the value is not puts those behind it one place later.
-use mathlib.Core.Path.{sym, ap, _∙_}
-use Rattle.octets.specs.Text.{bytes}
-use Rattle.fields.specs.Fields.{later}
-use Rattle.fields.proofs.Names.{named, not-named, none-named}
+-- The value's place in the table, counted from 1.
+use mathlib.Core.Path.{refl}
+use denote.Ref.{now}
 use borrow.Author.Needs.{needs}
+use Rattle.octets.specs.Text.{bytes}
+use Rattle.values.specs.Value.{valueAt}
+use Rattle.words.specs.Words.{wordsOf}
+use Rattle.fields.specs.Fields.{indexIn, statuses}
+use Rattle.fields.proofs.Places.{Counted, counted}
 use Rattle.fields.proofs.status_at.Statement.{statement}
 use Rattle.fields.proofs.status_at.Tie as tie
 
-slice-aggregate-equal : tie.Need-slice-aggregate-equal
-slice-aggregate-equal c = search needs
+told : (c : tie.After-which-value) → let a = c .before .before .before .before .args in Counted 5 (c .which-value .result) (indexIn statuses (valueAt (now (a .s)) (a .at)))
+unfolding bytes wordsOf
+told c = counted statuses _ _ refl (c .which-value .ensures)
 
-equal-requires : tie.Need-equal-requires
-equal-requires c κs = search needs
+slice-aggregate-which-value : tie.Need-slice-aggregate-which-value
+slice-aggregate-which-value c = search needs
+
+slice-aggregate-which-value-2 : tie.Need-slice-aggregate-which-value-2
+slice-aggregate-which-value-2 c = search needs
+
+which-value-requires : tie.Need-which-value-requires
+which-value-requires c κs = search needs
+
+cast-result : tie.Need-cast-result
+cast-result c = search needs
+
+add-result : tie.Need-add-result
+add-result c = search needs
 
 returns : tie.Need-returns
-unfolding bytes
-returns c = sym (named "Actual" _ _ (c .before .equal .ensures) (c .if1 .taken))
-
-slice-aggregate-equal-2 : tie.Need-slice-aggregate-equal-2
-slice-aggregate-equal-2 c = search needs
-
-equal-requires-2 : tie.Need-equal-requires-2
-equal-requires-2 c κs = search needs
+returns c = told (c .before) .inside (c .if1 .taken)
 
 returns-2 : tie.Need-returns-2
-unfolding bytes
-returns-2 c =
-    let c1 = c .before .before .before in
-    sym (not-named "Actual" _ _ (c1 .before .equal .ensures) (c1 .if1 .left)
-    ∙ ap later (named "Exercise" _ _ (c .before .equal2 .ensures) (c .if2 .taken)))
-
-slice-aggregate-equal-3 : tie.Need-slice-aggregate-equal-3
-slice-aggregate-equal-3 c = search needs
-
-equal-requires-3 : tie.Need-equal-requires-3
-equal-requires-3 c κs = search needs
-
-returns-3 : tie.Need-returns-3
-unfolding bytes
-returns-3 c =
-    let c2 = c .before .before .before in
-    let c1 = c2 .before .before .before in
-    sym (not-named "Actual" _ _ (c1 .before .equal .ensures) (c1 .if1 .left)
-    ∙ ap later (not-named "Exercise" _ _ (c2 .before .equal2 .ensures) (c2 .if2 .left)
-    ∙ ap later (named "System" _ _ (c .before .equal3 .ensures) (c .if3 .taken))))
-
-slice-aggregate-equal-4 : tie.Need-slice-aggregate-equal-4
-slice-aggregate-equal-4 c = search needs
-
-equal-requires-4 : tie.Need-equal-requires-4
-equal-requires-4 c κs = search needs
-
-returns-4 : tie.Need-returns-4
-unfolding bytes
-returns-4 c =
-    let c3 = c .before .before .before in
-    let c2 = c3 .before .before .before in
-    let c1 = c2 .before .before .before in
-    sym (not-named "Actual" _ _ (c1 .before .equal .ensures) (c1 .if1 .left)
-    ∙ ap later (not-named "Exercise" _ _ (c2 .before .equal2 .ensures) (c2 .if2 .left)
-    ∙ ap later (not-named "System" _ _ (c3 .before .equal3 .ensures) (c3 .if3 .left)
-    ∙ ap later (named "Test" _ _ (c .before .equal4 .ensures) (c .if4 .taken)))))
-
-slice-aggregate-equal-5 : tie.Need-slice-aggregate-equal-5
-slice-aggregate-equal-5 c = search needs
-
-equal-requires-5 : tie.Need-equal-requires-5
-equal-requires-5 c κs = search needs
-
-returns-5 : tie.Need-returns-5
-unfolding bytes
-returns-5 c =
-    let c4 = c .before .before .before in
-    let c3 = c4 .before .before .before in
-    let c2 = c3 .before .before .before in
-    let c1 = c2 .before .before .before in
-    sym (not-named "Actual" _ _ (c1 .before .equal .ensures) (c1 .if1 .left)
-    ∙ ap later (not-named "Exercise" _ _ (c2 .before .equal2 .ensures) (c2 .if2 .left)
-    ∙ ap later (not-named "System" _ _ (c3 .before .equal3 .ensures) (c3 .if3 .left)
-    ∙ ap later (not-named "Test" _ _ (c4 .before .equal4 .ensures) (c4 .if4 .left)
-    ∙ ap later (named "Draft" _ _ (c .before .equal5 .ensures) (c .if5 .taken))))))
-
-returns-6 : tie.Need-returns-6
-unfolding bytes
-returns-6 c =
-    let c4 = c .before .before .before in
-    let c3 = c4 .before .before .before in
-    let c2 = c3 .before .before .before in
-    let c1 = c2 .before .before .before in
-    sym (not-named "Actual" _ _ (c1 .before .equal .ensures) (c1 .if1 .left)
-    ∙ ap later (not-named "Exercise" _ _ (c2 .before .equal2 .ensures) (c2 .if2 .left)
-    ∙ ap later (not-named "System" _ _ (c3 .before .equal3 .ensures) (c3 .if3 .left)
-    ∙ ap later (not-named "Test" _ _ (c4 .before .equal4 .ensures) (c4 .if4 .left)
-    ∙ ap later (not-named "Draft" _ _ (c .before .equal5 .ensures) (c .if5 .left)
-    ∙ ap later (none-named _))))))
+returns-2 c = told (c .before) .past (c .if1 .left)
 
 pub status-at-spec : {M : Type 1} → statement M
-status-at-spec =
-    tie.close
-    (tie.spec
-    slice-aggregate-equal
-    equal-requires
-    returns
-    slice-aggregate-equal-2
-    equal-requires-2
-    returns-2
-    slice-aggregate-equal-3
-    equal-requires-3
-    returns-3
-    slice-aggregate-equal-4
-    equal-requires-4
-    returns-4
-    slice-aggregate-equal-5
-    equal-requires-5
-    returns-5
-    returns-6)
+status-at-spec = tie.close (tie.spec slice-aggregate-which-value slice-aggregate-which-value-2 which-value-requires cast-result add-result returns returns-2)

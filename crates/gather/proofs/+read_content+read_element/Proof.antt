@@ -301,7 +301,7 @@ read-element-add-context-of : (t : ℕ) → read-element-lts.Need-add-context-of
   finish-reads.Asked,
   finish-reads.Learnt,
 ) (read-element-at t) read-element.Post
-read-element-add-context-of t c = let a = c .before .before .before .before .before .before .before .args in let s = now (a .s) in let p = now (a .p) in let x = c .before .o .given .0 .0 in let y = c .before .o .given .0 .1 .0 in let e : openAt s (a .at) ≡ Empty x y = sym (c .before .before .before .open-tag .ensures) ∙ c .before .o .given .1 in let g = rw e at (open-goes s (a .at)) in let g0 = g .0 in let g1 = g .1 in let g2 = g .2 in omega arith
+read-element-add-context-of t c = let a = c .before .before .before .before .before .before .before .before .args in let s = now (a .s) in let p = now (a .p) in let x = c .before .o .given .0 .0 in let y = c .before .o .given .0 .1 .0 in let e : openAt s (a .at) ≡ Empty x y = sym (c .before .before .before .open-tag .ensures) ∙ c .before .o .given .1 in let g = rw e at (open-goes s (a .at)) in let g0 = g .0 in let g1 = g .1 in let g2 = g .2 in omega arith
 
 read-element-context-of-requires : (t : ℕ) → read-element-lts.Need-context-of-requires (
   open-tag-reads.Asked,
@@ -317,7 +317,7 @@ read-element-context-of-requires : (t : ℕ) → read-element-lts.Need-context-o
   finish-reads.Asked,
   finish-reads.Learnt,
 ) (read-element-at t) read-element.Post
-read-element-context-of-requires t c κs = let a = c .before .before .before .before .before .before .before .args in let s = now (a .s) in let p = now (a .p) in let x = c .before .o .given .0 .0 in let y = c .before .o .given .0 .1 .0 in let e : openAt s (a .at) ≡ Empty x y = sym (c .before .before .before .open-tag .ensures) ∙ c .before .o .given .1 in let g = rw e at (open-goes s (a .at)) in let g0 = g .0 in let g1 = g .1 in let g2 = g .2 in (omega arith, omega arith)
+read-element-context-of-requires t c κs = let a = c .before .before .before .before .before .before .before .before .args in let s = now (a .s) in let p = now (a .p) in let x = c .before .o .given .0 .0 in let y = c .before .o .given .0 .1 .0 in let e : openAt s (a .at) ≡ Empty x y = sym (c .before .before .before .open-tag .ensures) ∙ c .before .o .given .1 in let g = rw e at (open-goes s (a .at)) in let g0 = g .0 in let g1 = g .1 in let g2 = g .2 in (omega arith, omega arith)
 
 read-element-touch-leaf-requires : (t : ℕ) → read-element-lts.Need-touch-leaf-requires (
   open-tag-reads.Asked,
@@ -381,7 +381,7 @@ read-element-add-context-of-2 : (t : ℕ) → read-element-lts.Need-add-context-
   finish-reads.Asked,
   finish-reads.Learnt,
 ) (read-element-at t) read-element.Post
-read-element-add-context-of-2 t c = let a = c .before .before .before .before .before .before .before .args in let s = now (a .s) in let p = now (a .p) in let x = c .before .o2 .given .0 .0 in let y = c .before .o2 .given .0 .1 .0 in let e : openAt s (a .at) ≡ Full x y = sym (c .before .before .before .open-tag .ensures) ∙ c .before .o2 .given .1 in let g = rw e at (open-goes s (a .at)) in let g0 = g .0 in let g1 = g .1 in let g2 = g .2 in omega arith
+read-element-add-context-of-2 t c = let a = c .before .before .before .before .before .before .before .before .args in let s = now (a .s) in let p = now (a .p) in let x = c .before .o2 .given .0 .0 in let y = c .before .o2 .given .0 .1 .0 in let e : openAt s (a .at) ≡ Full x y = sym (c .before .before .before .open-tag .ensures) ∙ c .before .o2 .given .1 in let g = rw e at (open-goes s (a .at)) in let g0 = g .0 in let g1 = g .1 in let g2 = g .2 in omega arith
 
 read-element-context-of-requires-2 : (t : ℕ) → read-element-lts.Need-context-of-requires-2 (
   open-tag-reads.Asked,
@@ -397,7 +397,7 @@ read-element-context-of-requires-2 : (t : ℕ) → read-element-lts.Need-context
   finish-reads.Asked,
   finish-reads.Learnt,
 ) (read-element-at t) read-element.Post
-read-element-context-of-requires-2 t c κs = let a = c .before .before .before .before .before .before .before .args in let s = now (a .s) in let p = now (a .p) in let x = c .before .o2 .given .0 .0 in let y = c .before .o2 .given .0 .1 .0 in let e : openAt s (a .at) ≡ Full x y = sym (c .before .before .before .open-tag .ensures) ∙ c .before .o2 .given .1 in let g = rw e at (open-goes s (a .at)) in let g0 = g .0 in let g1 = g .1 in let g2 = g .2 in (omega arith, omega arith)
+read-element-context-of-requires-2 t c κs = let a = c .before .before .before .before .before .before .before .before .args in let s = now (a .s) in let p = now (a .p) in let x = c .before .o2 .given .0 .0 in let y = c .before .o2 .given .0 .1 .0 in let e : openAt s (a .at) ≡ Full x y = sym (c .before .before .before .open-tag .ensures) ∙ c .before .o2 .given .1 in let g = rw e at (open-goes s (a .at)) in let g0 = g .0 in let g1 = g .1 in let g2 = g .2 in (omega arith, omega arith)
 
 read-element-touch-leaf-requires-2 : (t : ℕ) → read-element-lts.Need-touch-leaf-requires-2 (
   open-tag-reads.Asked,
@@ -429,7 +429,7 @@ read-element-sub-read-content : (t : ℕ) → read-element-lts.Need-sub-read-con
   finish-reads.Asked,
   finish-reads.Learnt,
 ) (read-element-at t) read-element.Post
-read-element-sub-read-content t c = omega (arith, c .before .before .before .before .before .before .if1 .left)
+read-element-sub-read-content t c = omega (arith, c .before .before .before .before .before .before .before .if1 .left)
 
 read-element-read-content-requires : (t : ℕ) → read-element-lts.Need-read-content-requires (
   open-tag-reads.Asked,
@@ -445,7 +445,7 @@ read-element-read-content-requires : (t : ℕ) → read-element-lts.Need-read-co
   finish-reads.Asked,
   finish-reads.Learnt,
 ) (read-element-at t) read-element.Post
-read-element-read-content-requires t c κs = omega (arith, c .before .before .before .before .before .before .if1 .left)
+read-element-read-content-requires t c κs = omega (arith, c .before .before .before .before .before .before .before .if1 .left)
 
 read-element-enum-known-e : (t : ℕ) → read-element-lts.Need-enum-known-e (
   open-tag-reads.Asked,
@@ -477,7 +477,7 @@ read-element-finish-requires : (t : ℕ) → read-element-lts.Need-finish-requir
   finish-reads.Asked,
   finish-reads.Learnt,
 ) (read-element-at t) read-element.Post
-read-element-finish-requires t c κs = let a = c .before .before .before .before .before .before .before .before .before .before .before .before .before .before .args in let s = now (a .s) in let p = now (a .p) in let x = c .before .before .before .before .before .before .before .before .o2 .given .0 .0 in let y = c .before .before .before .before .before .before .before .before .o2 .given .0 .1 .0 in let e : openAt s (a .at) ≡ Full x y = sym (c .before .before .before .before .before .before .before .before .before .before .open-tag .ensures) ∙ c .before .before .before .before .before .before .before .before .o2 .given .1 in let g = rw e at (open-goes s (a .at)) in let g0 = g .0 in let g1 = g .1 in let g2 = g .2 in (omega arith, omega arith)
+read-element-finish-requires t c κs = let a = c .before .before .before .before .before .before .before .before .before .before .before .before .before .before .before .args in let s = now (a .s) in let p = now (a .p) in let x = c .before .before .before .before .before .before .before .before .o2 .given .0 .0 in let y = c .before .before .before .before .before .before .before .before .o2 .given .0 .1 .0 in let e : openAt s (a .at) ≡ Full x y = sym (c .before .before .before .before .before .before .before .before .before .before .open-tag .ensures) ∙ c .before .before .before .before .before .before .before .before .o2 .given .1 in let g = rw e at (open-goes s (a .at)) in let g0 = g .0 in let g1 = g .1 in let g2 = g .2 in (omega arith, omega arith)
 
 read-element-enum-told-2 : (t : ℕ) → read-element-lts.Need-enum-told-2 (
   open-tag-reads.Asked,
@@ -509,7 +509,7 @@ read-element-returns-2 : (t : ℕ) → read-element-lts.Need-returns-2 (
   finish-reads.Asked,
   finish-reads.Learnt,
 ) (read-element-at t) read-element.Post
-read-element-returns-2 t c = let a = c .before .before .before .before .before .before .args in let s = now (a .s) in let p = now (a .p) in let b = a .depth - 1 in let up : a .depth ≡ suc b = omega (arith, c .before .before .before .if1 .left) in let e : openAt s (a .at) ≡ Shut = sym (c .before .before .open-tag .ensures) ∙ c .enum-told .given .1 in one-shut s p (a .c) (a .st) (a .depth) (a .at) b up e
+read-element-returns-2 t c = let a = c .before .before .before .before .before .before .before .args in let s = now (a .s) in let p = now (a .p) in let b = a .depth - 1 in let up : a .depth ≡ suc b = omega (arith, c .before .before .before .before .if1 .left) in let e : openAt s (a .at) ≡ Shut = sym (c .before .before .open-tag .ensures) ∙ c .enum-told .given .1 in one-shut s p (a .c) (a .st) (a .depth) (a .at) b up e
 
 read-element-returns-3 : (t : ℕ) → read-element-lts.Need-returns-3 (
   open-tag-reads.Asked,
@@ -525,7 +525,7 @@ read-element-returns-3 : (t : ℕ) → read-element-lts.Need-returns-3 (
   finish-reads.Asked,
   finish-reads.Learnt,
 ) (read-element-at t) read-element.Post
-read-element-returns-3 t c = let a = c .before .before .before .before .before .before .before .before .before .before .args in let s = now (a .s) in let p = now (a .p) in let b = a .depth - 1 in let up : a .depth ≡ suc b = omega (arith, c .before .before .before .before .before .before .before .if1 .left) in let x = c .before .before .before .before .o .given .0 .0 in let y = c .before .before .before .before .o .given .0 .1 .0 in let e : openAt s (a .at) ≡ Empty x y = sym (c .before .before .before .before .before .before .open-tag .ensures) ∙ c .before .before .before .before .o .given .1 in rw (c .leave .ensures, c .before .touch-leaf .ensures, c .before .before .context-of .ensures) (one-empty s p (a .c) (a .st) (a .depth) (a .at) b up x y e)
+read-element-returns-3 t c = let a = c .before .before .before .before .before .before .before .before .before .before .before .args in let s = now (a .s) in let p = now (a .p) in let b = a .depth - 1 in let up : a .depth ≡ suc b = omega (arith, c .before .before .before .before .before .before .before .before .if1 .left) in let x = c .before .before .before .before .o .given .0 .0 in let y = c .before .before .before .before .o .given .0 .1 .0 in let e : openAt s (a .at) ≡ Empty x y = sym (c .before .before .before .before .before .before .open-tag .ensures) ∙ c .before .before .before .before .o .given .1 in rw (c .leave .ensures, c .before .touch-leaf .ensures, c .before .before .context-of .ensures) (one-empty s p (a .c) (a .st) (a .depth) (a .at) b up x y e)
 
 read-element-returns-4 : (t : ℕ) → read-element-lts.Need-returns-4 (
   open-tag-reads.Asked,
@@ -541,7 +541,7 @@ read-element-returns-4 : (t : ℕ) → read-element-lts.Need-returns-4 (
   finish-reads.Asked,
   finish-reads.Learnt,
 ) (read-element-at t) read-element.Post
-read-element-returns-4 t c = let a = c .before .before .before .before .before .before .before .before .before .before .before .before .before .before .before .args in let s = now (a .s) in let p = now (a .p) in let b = a .depth - 1 in let up : a .depth ≡ suc b = omega (arith, c .before .before .before .before .before .before .before .before .before .before .before .before .if1 .left) in let x = c .before .before .before .before .before .before .before .before .before .o2 .given .0 .0 in let y = c .before .before .before .before .before .before .before .before .before .o2 .given .0 .1 .0 in let e : openAt s (a .at) ≡ Full x y = sym (c .before .before .before .before .before .before .before .before .before .before .before .open-tag .ensures) ∙ c .before .before .before .before .before .before .before .before .before .o2 .given .1 in let z = c .before .before .before .before .before .read-content in let told : settled (length s) (z .result) ≡ gotHeld s p (inner s p (a .c) (a .st) (a .depth) (a .at) x) (touchIn Holds (a .c) (a .st)) (contentAt s b y) = z .ensures ∙ ap (λ (k : Context). gotHeld s p k (c .before .before .before .before .before .before .touch-leaf2 .result) (contentAt s b y)) (c .before .before .before .before .before .before .before .context-of2 .ensures) ∙ ap (λ (q : State). gotHeld s p (inner s p (a .c) (a .st) (a .depth) (a .at) x) q (contentAt s b y)) (c .before .before .before .before .before .before .touch-leaf2 .ensures) in c .finish .ensures ∙ ap (λ (k : Context). finished (length s) (closeAt s (a .at) x (c .before .before .before .e .given .0 .0)) (left s k (placeOf s y (c .before .before .before .e .given .0 .0)) (z .result .state))) (c .before .before .before .before .before .before .before .context-of2 .ensures) ∙ one-close s p (a .c) (a .st) (a .depth) (a .at) b up x y e (z .result) told (c .before .before .before .e .given .0 .0) (c .before .before .before .e .given .1)
+read-element-returns-4 t c = let a = c .before .before .before .before .before .before .before .before .before .before .before .before .before .before .before .before .args in let s = now (a .s) in let p = now (a .p) in let b = a .depth - 1 in let up : a .depth ≡ suc b = omega (arith, c .before .before .before .before .before .before .before .before .before .before .before .before .before .if1 .left) in let x = c .before .before .before .before .before .before .before .before .before .o2 .given .0 .0 in let y = c .before .before .before .before .before .before .before .before .before .o2 .given .0 .1 .0 in let e : openAt s (a .at) ≡ Full x y = sym (c .before .before .before .before .before .before .before .before .before .before .before .open-tag .ensures) ∙ c .before .before .before .before .before .before .before .before .before .o2 .given .1 in let z = c .before .before .before .before .before .read-content in let told : settled (length s) (z .result) ≡ gotHeld s p (inner s p (a .c) (a .st) (a .depth) (a .at) x) (touchIn Holds (a .c) (a .st)) (contentAt s b y) = z .ensures ∙ ap (λ (k : Context). gotHeld s p k (c .before .before .before .before .before .before .touch-leaf2 .result) (contentAt s b y)) (c .before .before .before .before .before .before .before .context-of2 .ensures) ∙ ap (λ (q : State). gotHeld s p (inner s p (a .c) (a .st) (a .depth) (a .at) x) q (contentAt s b y)) (c .before .before .before .before .before .before .touch-leaf2 .ensures) in c .finish .ensures ∙ ap (λ (k : Context). finished (length s) (closeAt s (a .at) x (c .before .before .before .e .given .0 .0)) (left s k (placeOf s y (c .before .before .before .e .given .0 .0)) (z .result .state))) (c .before .before .before .before .before .before .before .context-of2 .ensures) ∙ one-close s p (a .c) (a .st) (a .depth) (a .at) b up x y e (z .result) told (c .before .before .before .e .given .0 .0) (c .before .before .before .e .given .1)
 
 read-element-returns-5 : (t : ℕ) → read-element-lts.Need-returns-5 (
   open-tag-reads.Asked,
@@ -557,7 +557,7 @@ read-element-returns-5 : (t : ℕ) → read-element-lts.Need-returns-5 (
   finish-reads.Asked,
   finish-reads.Learnt,
 ) (read-element-at t) read-element.Post
-read-element-returns-5 t c = let a = c .before .before .before .before .before .before .before .before .before .before .before .before .args in let s = now (a .s) in let p = now (a .p) in let b = a .depth - 1 in let up : a .depth ≡ suc b = omega (arith, c .before .before .before .before .before .before .before .before .before .if1 .left) in let x = c .before .before .before .before .before .before .o2 .given .0 .0 in let y = c .before .before .before .before .before .before .o2 .given .0 .1 .0 in let e : openAt s (a .at) ≡ Full x y = sym (c .before .before .before .before .before .before .before .before .open-tag .ensures) ∙ c .before .before .before .before .before .before .o2 .given .1 in let z = c .before .before .read-content in let told : settled (length s) (z .result) ≡ gotHeld s p (inner s p (a .c) (a .st) (a .depth) (a .at) x) (touchIn Holds (a .c) (a .st)) (contentAt s b y) = z .ensures ∙ ap (λ (k : Context). gotHeld s p k (c .before .before .before .touch-leaf2 .result) (contentAt s b y)) (c .before .before .before .before .context-of2 .ensures) ∙ ap (λ (q : State). gotHeld s p (inner s p (a .c) (a .st) (a .depth) (a .at) x) q (contentAt s b y)) (c .before .before .before .touch-leaf2 .ensures) in one-bad s p (a .c) (a .st) (a .depth) (a .at) b up x y e (z .result) told (c .enum-told2 .given .1)
+read-element-returns-5 t c = let a = c .before .before .before .before .before .before .before .before .before .before .before .before .before .args in let s = now (a .s) in let p = now (a .p) in let b = a .depth - 1 in let up : a .depth ≡ suc b = omega (arith, c .before .before .before .before .before .before .before .before .before .before .if1 .left) in let x = c .before .before .before .before .before .before .o2 .given .0 .0 in let y = c .before .before .before .before .before .before .o2 .given .0 .1 .0 in let e : openAt s (a .at) ≡ Full x y = sym (c .before .before .before .before .before .before .before .before .open-tag .ensures) ∙ c .before .before .before .before .before .before .o2 .given .1 in let z = c .before .before .read-content in let told : settled (length s) (z .result) ≡ gotHeld s p (inner s p (a .c) (a .st) (a .depth) (a .at) x) (touchIn Holds (a .c) (a .st)) (contentAt s b y) = z .ensures ∙ ap (λ (k : Context). gotHeld s p k (c .before .before .before .touch-leaf2 .result) (contentAt s b y)) (c .before .before .before .before .context-of2 .ensures) ∙ ap (λ (q : State). gotHeld s p (inner s p (a .c) (a .st) (a .depth) (a .at) x) q (contentAt s b y)) (c .before .before .before .touch-leaf2 .ensures) in one-bad s p (a .c) (a .st) (a .depth) (a .at) b up x y e (z .result) told (c .enum-told2 .given .1)
 
 pub +read-content+read-element-spec : {M : Type 1} → statement M
 +read-content+read-element-spec = close μ-read-content μ-read-element (λ t. read-content-lts.spec (

@@ -32,14 +32,17 @@ is-info-sound-requires c κs = search needs
 either-requires : tie.Need-either-requires
 either-requires c κs = search needs
 
+is-unknown-requires : tie.Need-is-unknown-requires
+is-unknown-requires c κs = search needs
+
 field-requires : tie.Need-field-requires
 field-requires c κs = search needs
 
 returns : tie.Need-returns
 returns c =
-    let a = c .before .before .before .before .before .before .before .before .before .before .args in
-    let e : _≡_ {A = List Bool} (not (c .before .before .before .before .before .is-identified .result) ∷ not (c .before .before .before .before .is-identified2 .result) ∷ not (c .before .before .before .is-time .result) ∷ eqb (a .status) 0 ∷ eqb (a .kind) 0 ∷ eqb (a .scope) 0 ∷ c .before .either .result ∷ []) (faultsWith (now (a .s)) (a .t2) (a .sent) (a .status) (a .kind) (a .scope)) =
-    rw (c .before .either .ensures, c .before .before .is-info-sound .ensures, c .before .before .before .is-time .ensures, c .before .before .before .before .is-identified2 .ensures, c .before .before .before .before .before .is-identified .ensures) in
+    let a = c .before .before .before .before .before .before .before .before .before .before .before .args in
+    let e : _≡_ {A = List Bool} (not (c .before .before .before .before .before .before .is-identified .result) ∷ not (c .before .before .before .before .before .is-identified2 .result) ∷ not (c .before .before .before .before .is-time .result) ∷ eqb (a .status) 0 ∷ c .before .is-unknown .result ∷ eqb (a .scope) 0 ∷ c .before .before .either .result ∷ []) (faultsWith (now (a .s)) (a .t2) (a .sent) (a .status) (a .msg-type) (a .scope)) =
+    rw (c .before .is-unknown .ensures, c .before .before .either .ensures, c .before .before .before .is-info-sound .ensures, c .before .before .before .before .is-time .ensures, c .before .before .before .before .before .is-identified2 .ensures, c .before .before .before .before .before .before .is-identified .ensures) in
     c .field .ensures ∙ ap lowest e
 
 pub field-with-spec : {M : Type 1} → statement M
@@ -53,5 +56,6 @@ field-with-spec =
     is-time-requires
     is-info-sound-requires
     either-requires
+    is-unknown-requires
     field-requires
     returns)

@@ -10,8 +10,8 @@ element-copy-out-sent-leaf c = search needs
 element-copy-out-status-leaf : tie.Need-element-copy-out-status-leaf
 element-copy-out-status-leaf c = search needs
 
-element-copy-out-kind-leaf : tie.Need-element-copy-out-kind-leaf
-element-copy-out-kind-leaf c = search needs
+element-copy-out-msg-type-leaf : tie.Need-element-copy-out-msg-type-leaf
+element-copy-out-msg-type-leaf c = search needs
 
 element-copy-out-scope-leaf : tie.Need-element-copy-out-scope-leaf
 element-copy-out-scope-leaf c = search needs
@@ -50,7 +50,7 @@ judge-spec =
     (tie.spec
     element-copy-out-sent-leaf
     element-copy-out-status-leaf
-    element-copy-out-kind-leaf
+    element-copy-out-msg-type-leaf
     element-copy-out-scope-leaf
     element-copy-out-references
     time-of-requires

@@ -1,9 +1,14 @@
 -- The root, what follows it, and then its number (Roots).
-use mathlib.Core.Path.{_≡_, sym, ap, _∙_}
+use Prim.Native.Nat.{ℕ}
+use mathlib.Core.Path.{_≡_, sym, ap₂, _∙_}
+use mathlib.Core.Bool.{Bool}
+use mathlib.Core.List.{List}
 use borrow.Author.Tests.{not-true, not-false}
 use lib.ListN.{length}
 use denote.Ref.{now}
-use Rattle.markup.specs.Tree.{elemAt}
+use Rattle.pieces.specs.declared.End.the-variants.{At}
+use Rattle.markup.specs.Tree.{One, elemAt}
+use Rattle.markup.specs.Document.{miscAt}
 use Rattle.reads.specs.Leaves.{fresh}
 use Rattle.reads.specs.declared.Context.{Context}
 use Rattle.reads.specs.declared.State.{State}
@@ -13,6 +18,33 @@ use Rattle.message.proofs.Roots.{pass-none, pass-unended, pass-more, pa
 use borrow.Author.Needs.{needs}
 use Rattle.message.proofs.pass.Statement.{statement}
 use Rattle.message.proofs.pass.Tie as tie
+
+-- ---- behind the pass over the root
+
+abbrev bytes : tie.After-element → List ℕ
+bytes c = now (c .before .before .before .before .before .args .s)
+
+abbrev prefix : tie.After-element → List ℕ
+prefix c = now (c .before .before .before .before .before .args .p)
+
+abbrev isRoot : tie.After-element → Bool
+isRoot c = c .before .before .before .before .before .args .ok
+
+abbrev root : tie.After-element → One
+root c = elemAt (bytes c) 12 (c .before .before .before .before .before .args .i)
+
+got : (c : tie.After-element) → c .element .result ≡ gotOne (bytes c) (prefix c) (rootContext (isRoot c)) (fresh (length (bytes c))) (root c)
+got c =
+    c .element .ensures
+    ∙ ap₂ (λ (k : Context) (st : State). gotOne (bytes c) (prefix c) k st (root c)) (c .before .before .root-context .ensures) (c .before .new-state .ensures)
+
+-- ---- behind what follows it
+
+abbrev passed-root : tie.After-m → tie.After-element
+passed-root c = c .before .before .before .before .before .before
+
+follows : (c : tie.After-m) → miscAt (bytes (passed-root c)) (c .before .before .before .before .e .given .0 .0) ≡ At (c .m .given .0 .0)
+follows c = sym (c .before .before .misc .ensures) ∙ c .m .given .1
 
 root-context-requires : tie.Need-root-context-requires
 root-context-requires c κs = search needs
@@ -33,7 +65,9 @@ refused-requires : tie.Need-refused-requires
 refused-requires c κs = search needs
 
 returns : tie.Need-returns
-returns c = let a = c .before .before .before .before .before .before .before .before .args in let s = now (a .s) in let p = now (a .p) in let o = elemAt s 12 (a .i) in let z = c .before .before .before .element in let got : z .result ≡ gotOne s p (rootContext (a .ok)) (fresh (length s)) o = z .ensures ∙ ap (λ (k : Context). gotOne s p k (c .before .before .before .before .new-state .result) o) (c .before .before .before .before .before .root-context .ensures) ∙ ap (λ (q : State). gotOne s p (rootContext (a .ok)) q o) (c .before .before .before .before .new-state .ensures) in c .refused .ensures ∙ pass-none s p (a .ok) o (z .result) got (c .before .enum-told .given .1)
+returns c =
+    let z = c .before .before .before in
+    c .refused .ensures ∙ pass-none (bytes z) (prefix z) (isRoot z) (root z) (z .element .result) (got z) (c .before .enum-told .given .1)
 
 misc-requires : tie.Need-misc-requires
 misc-requires c κs = search needs
@@ -48,25 +82,48 @@ refused-requires-2 : tie.Need-refused-requires-2
 refused-requires-2 c κs = search needs
 
 returns-2 : tie.Need-returns-2
-returns-2 c = let a = c .before .before .before .before .before .before .before .before .before .before .before .before .args in let s = now (a .s) in let p = now (a .p) in let o = elemAt s 12 (a .i) in let z = c .before .before .before .before .before .before .before .element in let got : z .result ≡ gotOne s p (rootContext (a .ok)) (fresh (length s)) o = z .ensures ∙ ap (λ (k : Context). gotOne s p k (c .before .before .before .before .before .before .before .before .new-state .result) o) (c .before .before .before .before .before .before .before .before .before .root-context .ensures) ∙ ap (λ (q : State). gotOne s p (rootContext (a .ok)) q o) (c .before .before .before .before .before .before .before .before .new-state .ensures) in let j = c .before .before .before .before .before .e .given .0 .0 in let q = c .before .before .before .before .before .e .given .1 in c .refused2 .ensures ∙ pass-unended s p (a .ok) o (z .result) got j q (sym (c .before .before .before .misc .ensures) ∙ c .before .enum-told2 .given .1)
+returns-2 c =
+    let z = c .before .before .before .before .before .before .before in
+    let e = c .before .before .before .before .before .e .given in
+    c .refused2 .ensures
+    ∙ pass-unended (bytes z) (prefix z) (isRoot z) (root z) (z .element .result) (got z) (e .0 .0) (e .1)
+    (sym (c .before .before .before .misc .ensures) ∙ c .before .enum-told2 .given .1)
 
 refused-requires-3 : tie.Need-refused-requires-3
 refused-requires-3 c κs = search needs
 
 returns-3 : tie.Need-returns-3
-returns-3 c = let a = c .before .before .before .before .before .before .before .before .before .before .before .before .before .before .args in let s = now (a .s) in let p = now (a .p) in let o = elemAt s 12 (a .i) in let z = c .before .before .before .before .before .before .before .before .before .element in let got : z .result ≡ gotOne s p (rootContext (a .ok)) (fresh (length s)) o = z .ensures ∙ ap (λ (k : Context). gotOne s p k (c .before .before .before .before .before .before .before .before .before .before .new-state .result) o) (c .before .before .before .before .before .before .before .before .before .before .before .root-context .ensures) ∙ ap (λ (q : State). gotOne s p (rootContext (a .ok)) q o) (c .before .before .before .before .before .before .before .before .before .before .new-state .ensures) in let j = c .before .before .before .before .before .before .before .e .given .0 .0 in let q = c .before .before .before .before .before .before .before .e .given .1 in let k = c .before .before .before .m .given .0 .0 in let m = sym (c .before .before .before .before .before .misc .ensures) ∙ c .before .before .before .m .given .1 in c .refused3 .ensures ∙ pass-more s p (a .ok) o (z .result) got j q k m (c .before .if1 .taken)
+returns-3 c =
+    let m = c .before .before .before in
+    let z = passed-root m in
+    let e = m .before .before .before .before .e .given in
+    c .refused3 .ensures
+    ∙ pass-more (bytes z) (prefix z) (isRoot z) (root z) (z .element .result) (got z) (e .0 .0) (e .1) (m .m .given .0 .0) (follows m)
+    (c .before .if1 .taken)
 
 refused-requires-4 : tie.Need-refused-requires-4
 refused-requires-4 c κs = search needs
 
 returns-4 : tie.Need-returns-4
-returns-4 c = let a = c .before .before .before .before .before .before .before .before .before .before .before .before .before .before .before .args in let s = now (a .s) in let p = now (a .p) in let o = elemAt s 12 (a .i) in let z = c .before .before .before .before .before .before .before .before .before .before .element in let got : z .result ≡ gotOne s p (rootContext (a .ok)) (fresh (length s)) o = z .ensures ∙ ap (λ (k : Context). gotOne s p k (c .before .before .before .before .before .before .before .before .before .before .before .new-state .result) o) (c .before .before .before .before .before .before .before .before .before .before .before .before .root-context .ensures) ∙ ap (λ (q : State). gotOne s p (rootContext (a .ok)) q o) (c .before .before .before .before .before .before .before .before .before .before .before .new-state .ensures) in let j = c .before .before .before .before .before .before .before .before .e .given .0 .0 in let q = c .before .before .before .before .before .before .before .before .e .given .1 in let k = c .before .before .before .before .m .given .0 .0 in let m = sym (c .before .before .before .before .before .before .misc .ensures) ∙ c .before .before .before .before .m .given .1 in c .refused4 .ensures ∙ pass-other s p (a .ok) o (z .result) got j q k m (c .before .before .if1 .left) (not-true _ (c .before .if2 .taken))
+returns-4 c =
+    let m = c .before .before .before .before in
+    let z = passed-root m in
+    let e = m .before .before .before .before .e .given in
+    c .refused4 .ensures
+    ∙ pass-other (bytes z) (prefix z) (isRoot z) (root z) (z .element .result) (got z) (e .0 .0) (e .1) (m .m .given .0 .0) (follows m)
+    (c .before .before .if1 .left) (not-true _ (c .before .if2 .taken))
 
 judge-requires : tie.Need-judge-requires
 judge-requires c κs = search needs
 
 returns-5 : tie.Need-returns-5
-returns-5 c = let a = c .before .before .before .before .before .before .before .before .before .before .before .before .before .before .before .before .before .args in let s = now (a .s) in let p = now (a .p) in let o = elemAt s 12 (a .i) in let z = c .before .before .before .before .before .before .before .before .before .before .before .before .element in let got : z .result ≡ gotOne s p (rootContext (a .ok)) (fresh (length s)) o = z .ensures ∙ ap (λ (k : Context). gotOne s p k (c .before .before .before .before .before .before .before .before .before .before .before .before .before .new-state .result) o) (c .before .before .before .before .before .before .before .before .before .before .before .before .before .before .root-context .ensures) ∙ ap (λ (q : State). gotOne s p (rootContext (a .ok)) q o) (c .before .before .before .before .before .before .before .before .before .before .before .before .before .new-state .ensures) in let j = c .before .before .before .before .before .before .before .before .before .before .e .given .0 .0 in let q = c .before .before .before .before .before .before .before .before .before .before .e .given .1 in let k = c .before .before .before .before .before .before .m .given .0 .0 in let m = sym (c .before .before .before .before .before .before .before .before .misc .ensures) ∙ c .before .before .before .before .before .before .m .given .1 in c .judge .ensures ∙ pass-is s p (a .ok) o (z .result) got j q k m (c .before .before .before .before .if1 .left) (not-false _ (c .before .before .before .if2 .left))
+returns-5 c =
+    let m = c .before .before .before .before .before .before in
+    let z = passed-root m in
+    let e = m .before .before .before .before .e .given in
+    c .judge .ensures
+    ∙ pass-is (bytes z) (prefix z) (isRoot z) (root z) (z .element .result) (got z) (e .0 .0) (e .1) (m .m .given .0 .0) (follows m)
+    (c .before .before .before .before .if1 .left) (not-false _ (c .before .before .before .if2 .left))
 
 pub pass-spec : {M : Type 1} → statement M
 pass-spec =

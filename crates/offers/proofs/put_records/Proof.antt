@@ -20,7 +20,7 @@ to-start c = c .before .before .before .before
 told : (c : tie.Start) → Ready (c .args .s .now) (c .args .j)
 told c = ready _ _ (c .pre .0) (c .pre .1)
 
-has : (c : tie.Else1) → asksReferences (to-start (to-notice (c .before)) .args .j .message .kind) ≡ true
+has : (c : tie.Else1) → asksReferences (to-start (to-notice (c .before)) .args .j .message .«msg_type») ≡ true
 has c = sym (c .before .has-references .ensures) ∙ not-false _ (c .if1 .left)
 
 put-notice-requires : tie.Need-put-notice-requires

@@ -1,195 +1,59 @@
--- The rows are tried in their order, and the first that has the name decides.
+-- The row at the name's place decides.
 use Prim.Native.Nat.{ℕ}
-use mathlib.Core.Path.{refl, sym, _∙_}
+use mathlib.Core.Path.{_≡_, refl, sym, ap, _∙_}
+use mathlib.Core.List.{List}
 use denote.Ref.{now}
-use lib.ListN.{drop}
 use borrow.Author.Needs.{needs}
-use borrow.Author.Tests.{eq-eqb, ne-eqb}
 use Rattle.octets.specs.Text.{bytes}
-use Rattle.octets.proofs.Tests.{picked, passed-over}
-use Rattle.reads.specs.Names.{among, inAlert}
-use Rattle.reads.specs.declared.Context.the-variants.{Later, Info}
-use Rattle.reads.proofs.Rows.{Left, next-row, row-is, no-row}
+use Rattle.words.specs.Words.{wordsOf}
+use Rattle.words.proofs.Choices.{chosen, alike}
+use Rattle.reads.specs.Names.{Row, among, inAlert, infoInside}
+use Rattle.reads.specs.declared.Context.the-variants.{AlertLeaf, Skipped}
+use Rattle.reads.proofs.Rows.{insides, insideAt, no-row}
 use Rattle.reads.proofs.alert_context.Statement.{statement}
 use Rattle.reads.proofs.alert_context.Tie as tie
 
--- the first k rows do not have the name
-abbrev Passed : tie.Start → ℕ → Type 0
-Passed c k = let w = now (c .args .name) in Left (among (inAlert (c .args .kept)) w) (drop k (inAlert (c .args .kept))) w
+abbrev rows : tie.After-which → List Row
+rows c = inAlert (c .before .before .before .before .args .kept)
 
-passed-0 : (c : tie.Start) → Passed c 0
-passed-0 c = record { says = refl }
+told : (c : tie.After-which) (k : ℕ) → c .which .result ≡ k → insideAt (rows c) k ≡ among (rows c) (now (c .before .before .before .before .args .name))
+unfolding among bytes wordsOf
+told c k h = chosen Skipped _ (insides (rows c)) _ (sym h ∙ c .which .ensures)
 
-abbrev start-1 : tie.Else1 → tie.Start
-start-1 c = c .before .before .before .before
+slice-aggregate-which : tie.Need-slice-aggregate-which
+slice-aggregate-which c = search needs
 
-passed-1 : (c : tie.Else1) → Passed (start-1 c) 1
-unfolding bytes
-passed-1 c = next-row (passed-0 (start-1 c)) (c .before .equal .ensures) (c .if1 .left)
+slice-aggregate-which-2 : tie.Need-slice-aggregate-which-2
+slice-aggregate-which-2 c = search needs
 
-abbrev start-2 : tie.Else2 → tie.Start
-start-2 c = start-1 (c .before .before .before)
-
-passed-2 : (c : tie.Else2) → Passed (start-2 c) 2
-unfolding bytes
-passed-2 c = next-row (passed-1 (c .before .before .before)) (c .before .equal2 .ensures) (c .if2 .left)
-
-abbrev start-3 : tie.Else3 → tie.Start
-start-3 c = start-2 (c .before .before .before)
-
-passed-3 : (c : tie.Else3) → Passed (start-3 c) 3
-unfolding bytes
-passed-3 c = next-row (passed-2 (c .before .before .before)) (c .before .equal3 .ensures) (c .if3 .left)
-
-abbrev start-4 : tie.Else4 → tie.Start
-start-4 c = start-3 (c .before .before .before)
-
-passed-4 : (c : tie.Else4) → Passed (start-4 c) 4
-unfolding bytes
-passed-4 c = next-row (passed-3 (c .before .before .before)) (c .before .equal4 .ensures) (c .if4 .left)
-
-abbrev start-5 : tie.Else5 → tie.Start
-start-5 c = start-4 (c .before .before .before)
-
-passed-5 : (c : tie.Else5) → Passed (start-5 c) 5
-unfolding bytes
-passed-5 c = next-row (passed-4 (c .before .before .before)) (c .before .equal5 .ensures) (c .if5 .left)
-
-abbrev start-6 : tie.Else6 → tie.Start
-start-6 c = start-5 (c .before .before .before)
-
-passed-6 : (c : tie.Else6) → Passed (start-6 c) 6
-unfolding bytes
-passed-6 c = next-row (passed-5 (c .before .before .before)) (c .before .equal6 .ensures) (c .if6 .left)
-
-abbrev start-7 : tie.Else7 → tie.Start
-start-7 c = start-6 (c .before .before .before)
-
-passed-7 : (c : tie.Else7) → Passed (start-7 c) 7
-unfolding bytes
-passed-7 c = next-row (passed-6 (c .before .before .before)) (c .before .equal7 .ensures) (c .if7 .left)
-
-abbrev start-8 : tie.Else8 → tie.Start
-start-8 c = start-7 (c .before .before .before)
-
-passed-8 : (c : tie.Else8) → Passed (start-8 c) 8
-unfolding bytes
-passed-8 c = next-row (passed-7 (c .before .before .before)) (c .before .equal8 .ensures) (c .if8 .left)
-
-slice-aggregate-equal : tie.Need-slice-aggregate-equal
-slice-aggregate-equal c = search needs
-
-equal-requires : tie.Need-equal-requires
-equal-requires c κs = search needs
+which-requires : tie.Need-which-requires
+which-requires c κs = search needs
 
 returns : tie.Need-returns
-unfolding bytes
-returns c = row-is (passed-0 (c .before .before .before .before)) (c .before .equal .ensures) (c .if1 .taken)
-
-slice-aggregate-equal-2 : tie.Need-slice-aggregate-equal-2
-slice-aggregate-equal-2 c = search needs
-
-equal-requires-2 : tie.Need-equal-requires-2
-equal-requires-2 c κs = search needs
+returns c = alike AlertLeaf (insideAt (rows (c .before))) 7 refl (c .before .which .result) (c .if1 .taken) ∙ told (c .before) _ refl
 
 returns-2 : tie.Need-returns-2
-unfolding bytes
-returns-2 c = row-is (passed-1 (c .before .before .before)) (c .before .equal2 .ensures) (c .if2 .taken)
+returns-2 c = no-row (rows (c .before .before)) (c .before .before .which .result) (search needs) ∙ told (c .before .before) _ refl
 
-slice-aggregate-equal-3 : tie.Need-slice-aggregate-equal-3
-slice-aggregate-equal-3 c = search needs
+enum-told : tie.Need-enum-told
+enum-told c = search needs
 
-equal-requires-3 : tie.Need-equal-requires-3
-equal-requires-3 c κs = search needs
+enum-told-2 : tie.Need-enum-told-2
+enum-told-2 c = search needs
+
+enum-told-3 : tie.Need-enum-told-3
+enum-told-3 c = search needs
 
 returns-3 : tie.Need-returns-3
-unfolding bytes
-returns-3 c = row-is (passed-2 (c .before .before .before)) (c .before .equal3 .ensures) (c .if3 .taken)
-
-slice-aggregate-equal-4 : tie.Need-slice-aggregate-equal-4
-slice-aggregate-equal-4 c = search needs
-
-equal-requires-4 : tie.Need-equal-requires-4
-equal-requires-4 c κs = search needs
+returns-3 c = ap infoInside (sym (c .enum-told .given .1)) ∙ told (c .before .before .before .before) 7 (search needs)
 
 returns-4 : tie.Need-returns-4
-unfolding bytes
-returns-4 c = row-is (passed-3 (c .before .before .before)) (c .before .equal4 .ensures) (c .if4 .taken)
-
-slice-aggregate-equal-5 : tie.Need-slice-aggregate-equal-5
-slice-aggregate-equal-5 c = search needs
-
-equal-requires-5 : tie.Need-equal-requires-5
-equal-requires-5 c κs = search needs
+returns-4 c = ap infoInside (sym (c .enum-told2 .given .1)) ∙ told (c .before .before .before .before) 7 (search needs)
 
 returns-5 : tie.Need-returns-5
-unfolding bytes
-returns-5 c = row-is (passed-4 (c .before .before .before)) (c .before .equal5 .ensures) (c .if5 .taken)
-
-slice-aggregate-equal-6 : tie.Need-slice-aggregate-equal-6
-slice-aggregate-equal-6 c = search needs
-
-equal-requires-6 : tie.Need-equal-requires-6
-equal-requires-6 c κs = search needs
-
-returns-6 : tie.Need-returns-6
-unfolding bytes
-returns-6 c = row-is (passed-5 (c .before .before .before)) (c .before .equal6 .ensures) (c .if6 .taken)
-
-slice-aggregate-equal-7 : tie.Need-slice-aggregate-equal-7
-slice-aggregate-equal-7 c = search needs
-
-equal-requires-7 : tie.Need-equal-requires-7
-equal-requires-7 c κs = search needs
-
-returns-7 : tie.Need-returns-7
-unfolding bytes
-returns-7 c = row-is (passed-6 (c .before .before .before)) (c .before .equal7 .ensures) (c .if7 .taken)
-
-slice-aggregate-equal-8 : tie.Need-slice-aggregate-equal-8
-slice-aggregate-equal-8 c = search needs
-
-equal-requires-8 : tie.Need-equal-requires-8
-equal-requires-8 c κs = search needs
-
-returns-8 : tie.Need-returns-8
-unfolding bytes
-returns-8 c = sym (picked _ Later Info (eq-eqb _ _ (c .if9 .taken))) ∙ row-is (passed-7 (c .before .before .before .before)) (c .before .before .equal8 .ensures) (c .before .if8 .taken)
-
-returns-9 : tie.Need-returns-9
-unfolding bytes
-returns-9 c = sym (passed-over _ Later Info (ne-eqb _ _ (c .if9 .left))) ∙ row-is (passed-7 (c .before .before .before .before)) (c .before .before .equal8 .ensures) (c .before .if8 .taken)
-
-returns-10 : tie.Need-returns-10
-returns-10 c = no-row (passed-8 c)
+returns-5 c = ap infoInside (sym (c .enum-told3 .given .1)) ∙ told (c .before .before .before .before) 7 (search needs)
 
 pub alert-context-spec : {M : Type 1} → statement M
 alert-context-spec =
     tie.close
-    (tie.spec
-    slice-aggregate-equal
-    equal-requires
-    returns
-    slice-aggregate-equal-2
-    equal-requires-2
-    returns-2
-    slice-aggregate-equal-3
-    equal-requires-3
-    returns-3
-    slice-aggregate-equal-4
-    equal-requires-4
-    returns-4
-    slice-aggregate-equal-5
-    equal-requires-5
-    returns-5
-    slice-aggregate-equal-6
-    equal-requires-6
-    returns-6
-    slice-aggregate-equal-7
-    equal-requires-7
-    returns-7
-    slice-aggregate-equal-8
-    equal-requires-8
-    returns-8
-    returns-9
-    returns-10)
+    (tie.spec slice-aggregate-which slice-aggregate-which-2 which-requires returns returns-2 enum-told enum-told-2 enum-told-3 returns-3 returns-4 returns-5)

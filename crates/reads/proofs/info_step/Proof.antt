@@ -1,6 +1,5 @@
 -- The language is the first leaf, and the tests are asked in their order.
 use mathlib.Core.Path.{sym, _∙_}
-use borrow.Author.Tests.{eq-eqb, ne-eqb}
 use borrow.Author.Needs.{needs}
 use Rattle.reads.specs.Steps.{infoStep}
 use Rattle.reads.proofs.info_step.Statement.{statement}
@@ -18,6 +17,9 @@ either-requires c κs = search needs
 is-english-requires : tie.Need-is-english-requires
 is-english-requires c κs = search needs
 
+is-nothing-requires : tie.Need-is-nothing-requires
+is-nothing-requires c κs = search needs
+
 returns : tie.Need-returns
 unfolding infoStep
 returns c =
@@ -28,13 +30,13 @@ returns-2 : tie.Need-returns-2
 unfolding infoStep
 returns-2 c =
     let asked = c .before .before .before in
-    rw (asked .before .either .ensures, asked .before .before .is-sound .ensures, sym (asked .is-english .ensures) ∙ c .before .before .if1 .left, eq-eqb _ _ (c .if2 .taken))
+    rw (asked .before .either .ensures, asked .before .before .is-sound .ensures, sym (asked .is-english .ensures) ∙ c .before .before .if1 .left, sym (c .before .is-nothing .ensures) ∙ c .if2 .taken)
 
 returns-3 : tie.Need-returns-3
 unfolding infoStep
 returns-3 c =
     let asked = c .before .before .before in
-    rw (asked .before .either .ensures, asked .before .before .is-sound .ensures, sym (asked .is-english .ensures) ∙ c .before .before .if1 .left, ne-eqb _ _ (c .if2 .left))
+    rw (asked .before .either .ensures, asked .before .before .is-sound .ensures, sym (asked .is-english .ensures) ∙ c .before .before .if1 .left, sym (c .before .is-nothing .ensures) ∙ c .if2 .left)
 
 pub info-step-spec : {M : Type 1} → statement M
 info-step-spec =
@@ -45,5 +47,6 @@ info-step-spec =
     either-requires
     is-english-requires
     returns
+    is-nothing-requires
     returns-2
     returns-3)
