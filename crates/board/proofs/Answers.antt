@@ -18,15 +18,18 @@ use Rattle.octets.proofs.Tests.{picked, passed-over}
 use Rattle.records.specs.Record.{aired}
 use Rattle.ledger.specs.declared.Row.{Row}
 use Rattle.ledger.specs.Sorted.{In, Sorted, insert, insertAll}
-use Rattle.ledger.specs.Board.{carried, live, ordered, due, indexOf, rowOf, rowsOf}
-use Rattle.ledger.specs.Scan.{after, bestOf}
+use Rattle.ledger.specs.WorkingBoard.{carried, live, ordered, due, indexOf, rowOf, rowsOf}
+use Rattle.ledger.specs.WorkingScan.{after, bestOf}
 use Rattle.ledger.proofs.Sorts.{insert-new, insert-length, insertAll-grows}
 use Rattle.ledger.proofs.Dues.{in-due}
-use Rattle.slots.specs.Slots.{rec, recs, flat}
+use Rattle.slots.specs.WorkingSlots.{rec, flat}
+use Rattle.slots.specs.Slots.{recs}
 use Rattle.board.specs.declared.Listed.{Listed}
 use Rattle.board.specs.declared.Rows.{Rows}
-use Rattle.board.specs.Rules.{boardOf, boardOk, encode, added}
-use Rattle.board.specs.Calls.{offerRefused, offerTo, offerOf, handRefused, handTo, handOf, Listing, listRefused, listTo, listOf}
+use Rattle.board.specs.Rules.{boardOf}
+use Rattle.board.specs.WorkingRules.{boardOk, encode, added}
+use Rattle.board.specs.WorkingCalls.{offerRefused, offerTo, offerOf, handRefused, handTo, handOf, listRefused, listTo, listOf}
+use Rattle.board.specs.Calls.{Listing}
 use Rattle.board.proofs.Boards.{board-recs, board-within, kept, encoded}
 use Rattle.board.proofs.Finds.{Found, none, found, find, start-due, due-most}
 

@@ -23,9 +23,11 @@ use Rattle.records.proofs.Records.{record-long, record-kind}
 use Rattle.records.proofs.ZeroFill.{zeros-made, zeros-are}
 use Rattle.ledger.specs.Sorted.{In, Sorted, ascending}
 use Rattle.ledger.proofs.Sorts.{ascending-sorted, sorted-ascending, every-in, in-every}
-use Rattle.slots.specs.Slots.{rec, recs, flat}
+use Rattle.slots.specs.WorkingSlots.{rec, flat}
+use Rattle.slots.specs.Slots.{recs}
 use Rattle.slots.proofs.Records.{recs-length, recs-drop, recs-more, recs-flat, flat-length, flat-all, kind-rec}
-use Rattle.board.specs.Rules.{Records, filledOf, boardOf, boardTests, boardOk, encode}
+use Rattle.board.specs.WorkingRules.{Records, boardTests, boardOk, encode}
+use Rattle.board.specs.Rules.{filledOf, boardOf}
 
 -- ---- the filled records
 

@@ -12,12 +12,13 @@ use mathlib.Core.List.{List, [], _∷_, _++_}
 use native.Mathlib.Omega.{arith}
 use lib.ListN.{length, take, replicate}
 use Rattle.ledger.specs.Sorted.{In, Sorted}
-use Rattle.ledger.specs.Board.{due, Alert, records, Shaped, Carried, offer, offers, Taken, hands, Call, offered, handedOut, given, Once}
+use Rattle.ledger.specs.WorkingBoard.{due, Alert, records, Shaped, Carried, offer, offers, Taken, hands, Call, offered, handedOut, given, Once}
 use Rattle.ledger.proofs.Dues.{due-sorted}
 use Rattle.ledger.proofs.Demand3 as ledger
-use Rattle.board.specs.Rules.{Records, boardOf, boardOk, encode}
-use Rattle.board.specs.Calls.{offerOf, handOf}
-use Rattle.board.specs.Runs.{Empty, offersTo, AllTaken, AllRecords, handsFrom, givenOver, CallRecords}
+use Rattle.board.specs.WorkingRules.{Records, boardOk, encode}
+use Rattle.board.specs.Rules.{boardOf}
+use Rattle.board.specs.WorkingCalls.{offerOf, handOf}
+use Rattle.board.specs.WorkingRuns.{Empty, offersTo, AllTaken, AllRecords, handsFrom, givenOver, CallRecords}
 use Rattle.board.proofs.Boards.{board-encode, encode-ok}
 use Rattle.board.proofs.Keeps.{offer-keeps, offer-long, offer-board, offer-room, hand-out-keeps, hand-long, hand-board, hand-gives}
 

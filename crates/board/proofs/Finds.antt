@@ -30,13 +30,14 @@ use Rattle.records.proofs.Records.{header-long}
 use Rattle.records.proofs.ZeroFill.{pad-whole}
 use Rattle.ledger.specs.declared.Row.{Row}
 use Rattle.ledger.specs.Sorted.{In, has}
-use Rattle.ledger.specs.Board.{carried, unwithdrawn, live, ordered, due, carries, indexOf, countOf, rowOf, rowsOf}
-use Rattle.ledger.specs.Scan.{after, bestOf}
+use Rattle.ledger.specs.WorkingBoard.{carried, unwithdrawn, live, ordered, due, carries, indexOf, countOf, rowOf, rowsOf}
+use Rattle.ledger.specs.WorkingScan.{after, bestOf}
 use Rattle.ledger.proofs.Dues.{in-due}
 use Rattle.ledger.proofs.Scans.{Best, nothing, first, best, best-same, best-first, best-less, best-equal, best-more, after-start, after-next, row-index, row-count, ordered-length}
-use Rattle.slots.specs.Slots.{rec, recs}
+use Rattle.slots.specs.WorkingSlots.{rec}
+use Rattle.slots.specs.Slots.{recs}
 use Rattle.slots.proofs.Records.{recs-length, recs-get, recs-drop, recs-snoc, in-recs, drop-take}
-use Rattle.board.specs.Marks.{Marks}
+use Rattle.board.specs.WorkingMarks.{Marks}
 
 -- ---- the fields of record i
 

@@ -19,13 +19,15 @@ use Rattle.octets.proofs.Tests.{picked, passed-over}
 use Rattle.records.specs.Record.{kind, aired, recordOk}
 use Rattle.records.proofs.Records.{airs-ok, kind-aired}
 use Rattle.ledger.specs.Sorted.{In, insert, insertAll}
-use Rattle.ledger.specs.Board.{carried, live, due, Due, indexOf, After, handOutOf, handOut}
+use Rattle.ledger.specs.WorkingBoard.{carried, live, due, Due, indexOf, After, handOutOf, handOut}
 use Rattle.ledger.proofs.Sorts.{in-insert, in-insertAll, insert-sorted, insertAll-sorted, insertAll-grows, insert-behind}
 use Rattle.ledger.proofs.Dues.{in-due, live-is, in-headers, later-kind}
 use Rattle.ledger.proofs.Scans.{carries-is, index-get}
-use Rattle.board.specs.Rules.{Records, boardOf, boardOk, encode}
-use Rattle.board.specs.Calls.{Offering, offerRefused, offerTo, offerOf, Handing, handRefused, handTo, handOf}
-use Rattle.board.specs.Runs.{givenBy}
+use Rattle.board.specs.WorkingRules.{Records, boardOk, encode}
+use Rattle.board.specs.Rules.{boardOf}
+use Rattle.board.specs.WorkingCalls.{Offering, offerRefused, offerTo, offerOf, handRefused, handTo, handOf}
+use Rattle.board.specs.Calls.{Handing}
+use Rattle.board.specs.WorkingRuns.{givenBy}
 use Rattle.board.proofs.Boards.{kept, board-encode, encode-long, encode-ok}
 use Rattle.board.proofs.Answers.{offer-to, hand-to}
 

@@ -12,12 +12,14 @@ ghost use lib.Seq.{sets};
 ghost use Rattle.octets.specs.Bytes.{pick, every};
 ghost use Rattle.records.specs.Record.{recordOk, aired};
 ghost use Rattle.ledger.specs.Sorted.{ascending};
-ghost use Rattle.ledger.specs.Board.{carried, live, carries, countOf, rowsOf};
-ghost use Rattle.ledger.specs.Scan.{after, bestOf};
-ghost use Rattle.slots.specs.Slots.{rec, recs};
-ghost use Rattle.board.specs.Rules.{boardOf, boardOk, added};
-ghost use Rattle.board.specs.Calls.{offerOf, handOf, listRefused, listOf, blanks};
-ghost use Rattle.board.specs.Marks.{Marks};
+ghost use Rattle.ledger.specs.WorkingBoard.{carried, live, carries, countOf, rowsOf};
+ghost use Rattle.ledger.specs.WorkingScan.{after, bestOf};
+ghost use Rattle.slots.specs.WorkingSlots.{rec};
+ghost use Rattle.slots.specs.Slots.{recs};
+ghost use Rattle.board.specs.Rules.{boardOf};
+ghost use Rattle.board.specs.WorkingRules.{boardOk, added};
+ghost use Rattle.board.specs.WorkingCalls.{offerOf, handOf, listRefused, listOf, blanks};
+ghost use Rattle.board.specs.WorkingMarks.{Marks};
 
 // The most records that a board holds, and their bytes.
 const MOST: usize = 170;

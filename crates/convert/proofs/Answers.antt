@@ -15,13 +15,14 @@ use Rattle.header.proofs.Lengths.{length-header}
 use Rattle.sentence.specs.Words.{sentenceOf}
 use Rattle.sentence.proofs.Lengths.{sentence-le}
 use Rattle.wording.proofs.Texts.{text-le}
-use Rattle.message.specs.Message.{messageOf}
+use Rattle.message.specs.WorkingMessage.{messageOf}
 use Rattle.leaves.proofs.Fits.{audio-number}
-use Rattle.judgement.specs.Judged.{judgedOf}
+use Rattle.judgement.specs.WorkingJudged.{judgedOf}
 use Rattle.judgement.specs.declared.Judged.{Judged}
 use Rattle.judgement.proofs.Bodies.{message-kept}
 use Rattle.judgement.proofs.Answers.{number-small, field-small, field-alone}
-use Rattle.convert.specs.Convert.{nothing, textIn, alertGiven, Outcome, Ready, refusedWith, roomy, convertOf, answerOf}
+use Rattle.convert.specs.Convert.{nothing, Outcome, answerOf}
+use Rattle.convert.specs.WorkingConvert.{textIn, alertGiven, Ready, refusedWith, roomy, convertOf}
 use Rattle.convert.specs.declared.Converted.{Converted}
 use Rattle.convert.proofs.Outcomes.{short, unnamed, refused, quiet, alert, ready}
 

@@ -14,13 +14,14 @@ use Rattle.octets.proofs.Tests.{between-high}
 use Rattle.values.specs.Value.{valueAt}
 use Rattle.parts.specs.Parts.{stationOk}
 use Rattle.reads.specs.declared.Audio.{Audio}
-use Rattle.message.specs.Message.{messageOf}
+use Rattle.message.specs.WorkingMessage.{messageOf}
 use Rattle.leaves.proofs.Fits.{audio-fits}
-use Rattle.judgement.specs.Rules.{infoIn}
-use Rattle.judgement.specs.Judged.{judgedOf}
+use Rattle.judgement.specs.WorkingRules.{infoIn}
+use Rattle.judgement.specs.WorkingJudged.{judgedOf}
 use Rattle.judgement.specs.declared.Judged.{Judged}
 use Rattle.judgement.proofs.Bodies.{body-ok, message-kept}
-use Rattle.convert.specs.Convert.{nothing, uriIn, alertGiven, Outcome, refusedWith, Ready, roomy, outcomeOf, convertOf, answerOf}
+use Rattle.convert.specs.Convert.{nothing, Outcome, answerOf}
+use Rattle.convert.specs.WorkingConvert.{uriIn, alertGiven, refusedWith, Ready, roomy, outcomeOf, convertOf}
 use Rattle.convert.specs.declared.Converted.{Converted}
 
 -- ---- nothing given

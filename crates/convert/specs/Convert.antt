@@ -1,25 +1,8 @@
 -- The conversion: everything that it answers and writes for a message, a station and outputs of given lengths.
-use Prim.Native.Nat.{ℕ, _≤_}
-use mathlib.Core.Path.{_≡_}
-use mathlib.Core.Bool.{Bool, true, false, _&&_, not}
-use mathlib.Core.List.{List, [], _∷_}
+use Prim.Native.Nat.{ℕ}
+use mathlib.Core.Bool.{Bool, false}
+use mathlib.Core.List.{List, []}
 use lib.ListN.{length}
-use lib.Dec.{eqb, leb}
-use Rattle.octets.specs.Bytes.{pick, every, holds}
-use Rattle.octets.specs.Text.{bytes}
-use Rattle.values.specs.Value.{valueAt}
-use Rattle.parts.specs.Parts.{bodyOk, stationOk}
-use Rattle.parts.specs.declared.Body.{Body}
-use Rattle.header.specs.Header.{headerBytes}
-use Rattle.reads.specs.Leaves.{senderNameLeaf, descriptionLeaf, instructionLeaf}
-use Rattle.reads.specs.Steps.{says}
-use Rattle.reads.specs.declared.Audio.{Audio}
-use Rattle.reads.specs.declared.Info.{Info}
-use Rattle.sentence.specs.Words.{sentenceOf}
-use Rattle.wording.specs.Text.{textOf}
-use Rattle.judgement.specs.Rules.{infoIn}
-use Rattle.judgement.specs.Judged.{judgedOf}
-use Rattle.judgement.specs.declared.Judged.{Judged}
 use Rattle.convert.specs.declared.Converted.{Converted}
 
 -- ---- what an alert gives
@@ -35,34 +18,6 @@ pub record Given : Type 0 where
 abbrev pub nothing : Given
 nothing = record { header = []; text = []; audio = 0; uri = []; carry = false }
 
--- the header of the parts, for this station
-abbrev pub headerIn : List ℕ → Body → List ℕ
-headerIn station b = headerBytes (record { body = b; station = station })
-
--- the sentence of the header's parts, the first EASText, senderName, description, instruction
-unfoldable pub textIn : List ℕ → Judged → List ℕ
-textIn s j =
-    let i = infoIn (j .message) in
-    textOf (sentenceOf (j .body)) (valueAt s (i .parameters .text .at)) (valueAt s (senderNameLeaf i .at)) (valueAt s (descriptionLeaf i .at)) (valueAt s (instructionLeaf i .at))
-
--- the uri of the audio choice; none without audio
-unfoldable pub uriIn : List ℕ → Audio → List ℕ
-uriIn s a = pick (eqb (a .number) 0) [] (valueAt s (a .uri))
-
--- must-carry: the first EAS-Must-Carry parameter is `True`
-abbrev pub carryIn : List ℕ → Info → Bool
-carryIn s i = says s (i .parameters .carry .at) (bytes "True")
-
--- a message that answers 0 and is not quiet
-unfoldable pub alertGiven : List ℕ → List ℕ → Judged → Given
-alertGiven s station j = record {
-  header = headerIn station (j .body);
-  text = textIn s j;
-  audio = infoIn (j .message) .audio .number;
-  uri = uriIn s (infoIn (j .message) .audio);
-  carry = carryIn s (infoIn (j .message));
-}
-
 -- ---- the call
 
 -- the number, the field, and what is written from the start of each output; bytes past it stay, so that where nothing is written nothing is touched
@@ -70,36 +25,6 @@ pub record Outcome : Type 0 where
   pub number : ℕ
   pub field : ℕ
   pub given : Given
-
--- a refusal returns its number, zeros elsewhere, and touches nothing lent
-abbrev pub refusedWith : ℕ → Outcome
-refusedWith number = record { number = number; field = 0; given = nothing }
-
--- lent output short: header 252, text 1,800, uri 1,024
-unfoldable pub roomy : ℕ → ℕ → ℕ → Bool
-roomy header text uri = every holds (leb 252 header ∷ leb 1800 text ∷ leb 1024 uri ∷ [])
-
--- after 0 a message that is not quiet gives all that it has
-unfoldable pub outcomeOf : List ℕ → List ℕ → Judged → Outcome
-outcomeOf s station j = record {
-  number = j .number;
-  field = j .field;
-  given = pick (eqb (j .number) 0 && not (j .quiet)) (alertGiven s station j) nothing;
-}
-
--- conversion asks 2 to 14: 2 an output short, 3 station, then the message
-unfoldable pub convertOf : List ℕ → List ℕ → ℕ → ℕ → ℕ → Outcome
-convertOf s station header text uri =
-    pick (roomy header text uri)
-    (pick (stationOk station) (outcomeOf s station (judgedOf s)) (refusedWith 3))
-    (refusedWith 2)
-
--- what an alert must have to be written: outputs long enough, a station, a header's parts, and a uri that fits
-pub record Ready (s station : List ℕ) (j : Judged) (header text uri : ℕ) : Type 0 where
-  pub room : roomy header text uri ≡ true
-  pub named : stationOk station ≡ true
-  pub body : bodyOk (j .body) ≡ true
-  pub fits : length (uriIn s (infoIn (j .message) .audio)) ≤ 1024
 
 -- what the call returns: lengths in place of bytes
 unfoldable pub answerOf : Outcome → Converted

@@ -9,7 +9,8 @@ ghost use Prim.Native.Nat.{_≤_};
 ghost use lib.ListN.{length};
 ghost use lib.Seq.{sets};
 ghost use Rattle.parts.specs.Parts.{bodyOk, stationOk};
-ghost use Rattle.convert.specs.Convert.{Ready, nothing, headerIn, textIn, uriIn, alertGiven, roomy, convertOf, answerOf};
+ghost use Rattle.convert.specs.WorkingConvert.{Ready, headerIn, textIn, uriIn, alertGiven, roomy, convertOf};
+ghost use Rattle.convert.specs.Convert.{nothing, answerOf};
 
 // What a conversion answers: the number and the field; how long header, uri and text are; audio (0 none, 1 mp3, 2 wav, 3 stream); must-carry.
 pub struct Converted {

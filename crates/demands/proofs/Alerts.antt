@@ -14,13 +14,13 @@ use lib.ListN.{length, drop}
 use Rattle.octets.specs.Bytes.{pick, every, between, same}
 use Rattle.octets.specs.Text.{bytes}
 use Rattle.octets.proofs.Tests.{either-way}
-use Rattle.fields.specs.Fields.{statuses, scopes, msgTypeIn}
+use Rattle.fields.specs.WorkingFields.{statuses, scopes, msgTypeIn}
 use Rattle.markup.specs.Tree.{One, one, none}
 use Rattle.markup.specs.Document.{docAt}
-use Rattle.gather.specs.Read.{alertOf}
-use Rattle.reads.specs.Leaves.{referencesLeaf}
-use Rattle.message.specs.Judged.{statusOf, msgTypeOf, scopeOf, isAckOrError, asksReferences, isCancel, fieldOf, numberWith}
-use Rattle.message.specs.Message.{refusedAs, judged, passed, ofRoot, messageOf}
+use Rattle.gather.specs.WorkingRead.{alertOf}
+use Rattle.reads.specs.WorkingLeaves.{referencesLeaf}
+use Rattle.message.specs.WorkingJudged.{statusOf, msgTypeOf, scopeOf, isAckOrError, asksReferences, isCancel, fieldOf, numberWith}
+use Rattle.message.specs.WorkingMessage.{refusedAs, judged, passed, ofRoot, messageOf}
 use Rattle.message.specs.declared.Message.{Message}
 use Rattle.told.specs.Values.{is, isOne}
 use Rattle.demands.specs.Message.{prefixIn, contentIn, prefix, alert, status, msgType, scope, sentSeconds}

@@ -16,7 +16,8 @@ use Rattle.octets.specs.Bytes.{pick}
 use Rattle.octets.proofs.Tests.{each-of, every-of, between-low, between-high, between-is}
 use Rattle.ledger.specs.Sorted.{In, has, Sorted, insert, insertAll}
 use Rattle.ledger.proofs.Sorts.{in-insert, insert-sorted, insert-held, insert-new, has-in, has-not}
-use Rattle.board.specs.Rules.{boardOf, boardTests, boardOk}
+use Rattle.board.specs.Rules.{boardOf}
+use Rattle.board.specs.WorkingRules.{boardTests, boardOk}
 use Rattle.board.proofs.Boards.{board-within}
 use Rattle.demands.specs.Board.{newTo}
 use Rattle.demands.specs.Numbers.{isBoard, emptiesIn}

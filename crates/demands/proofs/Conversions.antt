@@ -13,8 +13,9 @@ use Rattle.parts.specs.Parts as parts
 use Rattle.parts.specs.declared.Parts.{Parts}
 use Rattle.header.specs.declared.Read.{Read}
 use Rattle.header.specs.Header.{headerForm, readOf, writeNumber, writeOf, writeBytes}
-use Rattle.judgement.specs.Judged.{judgedOf}
-use Rattle.convert.specs.Convert.{nothing, Outcome, refusedWith, roomy, outcomeOf, convertOf}
+use Rattle.judgement.specs.WorkingJudged.{judgedOf}
+use Rattle.convert.specs.Convert.{nothing, Outcome}
+use Rattle.convert.specs.WorkingConvert.{refusedWith, roomy, outcomeOf, convertOf}
 use Rattle.demands.specs.Calls.{library}
 use Rattle.demands.specs.Numbers.{Numbered, lowestIn, fieldBeside, isStation, takenRows, conversionRows, readRows, writeRows}
 use Rattle.demands.proofs.Rows.{held, at-pick, numbered}

@@ -12,11 +12,13 @@ use lib.Dec.{eqb, ltb}
 use lib.ListN.{length}
 use Rattle.octets.specs.Bytes.{pick, every}
 use Rattle.octets.proofs.Tests.{passed-over}
-use Rattle.judgement.specs.Judged.{judgedOf}
+use Rattle.judgement.specs.WorkingJudged.{judgedOf}
 use Rattle.board.specs.Rules.{boardOf}
 use Rattle.board.specs.Calls as calls
+use Rattle.board.specs.WorkingCalls as working-calls
 use Rattle.board.specs.declared.Handed as board
-use Rattle.offers.specs.Offer.{Offering, offerOf}
+use Rattle.offers.specs.Offer.{Offering}
+use Rattle.offers.specs.WorkingOffer.{offerOf}
 use Rattle.offers.specs.declared.Offered as offer
 use Rattle.told.specs.Values.{isNone}
 use Rattle.demands.specs.Calls.{library}
@@ -124,7 +126,7 @@ module _ (b : List ℕ) (rows : ℕ) where
   pub list-refused : (library .listing b rows .answer .number ≡ 0 → ⊥) → (library .listing b rows .answer .count ≡ 0) × (library .listing b rows .rows ≡ [])
   list-refused n = go (listed b rows)
     where
-      go : Listed b rows → (calls.listOf b rows .answer .count ≡ 0) × (calls.listOf b rows .rows ≡ [])
+      go : Listed b rows → (working-calls.listOf b rows .answer .count ≡ 0) × (working-calls.listOf b rows .rows ≡ [])
       go (Listed.bad _ e) = (ap (λ (o : calls.Listing). o .answer .count) e, ap (λ (o : calls.Listing). o .rows) e)
       go (Listed.short _ _ e) = (ap (λ (o : calls.Listing). o .answer .count) e, ap (λ (o : calls.Listing). o .rows) e)
       go (Listed.listing _ _ e) = absurd (n (ap (λ (o : calls.Listing). o .answer .number) e))

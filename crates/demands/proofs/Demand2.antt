@@ -22,10 +22,11 @@ use Rattle.header.proofs.ReadThenWrite.{write-read-header}
 use Rattle.sentence.specs.Words.{sentenceOf}
 use Rattle.sentence.proofs.Lengths.{sentence-le}
 use Rattle.wording.proofs.Texts.{text-le}
-use Rattle.judgement.specs.Judged.{judgedOf}
+use Rattle.judgement.specs.WorkingJudged.{judgedOf}
 use Rattle.judgement.proofs.Bodies.{body-ok}
 use Rattle.records.specs.Record.{pad}
-use Rattle.convert.specs.Convert.{Given, nothing, alertGiven, Outcome, roomy, outcomeOf, convertOf}
+use Rattle.convert.specs.Convert.{Given, nothing, Outcome}
+use Rattle.convert.specs.WorkingConvert.{alertGiven, roomy, outcomeOf, convertOf}
 use Rattle.demands.specs.Calls.{library}
 use Rattle.demands.specs.Message.{isQuiet, headerBody, headerParts, wholeOf}
 use Rattle.demands.specs.Board.{ownHeader}

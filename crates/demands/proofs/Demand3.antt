@@ -18,15 +18,17 @@ use Rattle.octets.specs.Bytes.{pick}
 use Rattle.octets.proofs.Tests.{picked, passed-over}
 use Rattle.records.specs.Record.{header, aired}
 use Rattle.ledger.specs.Sorted.{In, insert}
-use Rattle.ledger.specs.Board as ledger
-use Rattle.ledger.specs.Board.{carried, due, Alert}
+use Rattle.ledger.specs.WorkingBoard as ledger
+use Rattle.ledger.specs.WorkingBoard.{carried, due, Alert}
 use Rattle.ledger.proofs.Sorts.{insert-length}
 use Rattle.ledger.proofs.Demand3 as lists
 use Rattle.board.specs.Rules.{boardOf}
 use Rattle.board.specs.Calls as calls
-use Rattle.board.specs.Runs as board
+use Rattle.board.specs.WorkingCalls as working-calls
+use Rattle.board.specs.WorkingRuns as board
 use Rattle.board.proofs.Demand3 as bytes
-use Rattle.offers.specs.Offer.{Offering, offerOf}
+use Rattle.offers.specs.Offer.{Offering}
+use Rattle.offers.specs.WorkingOffer.{offerOf}
 use Rattle.demands.specs.Calls.{library}
 use Rattle.demands.specs.Board.{dueHeaders}
 use Rattle.demands.specs.Numbers.{noneApplies, takenRows, isBoard, emptiesIn}
@@ -104,14 +106,14 @@ hands (suc n) b ok = go (handed b) (hands n)
     gave : calls.Handing → List (List ℕ)
     gave o = pick (eqb (o .answer .number) 0) (header (getD (boardOf b) (o .answer .index) []) ∷ []) []
 
-    stays : (k : ℕ) → eqb k 0 ≡ false → calls.handOf b ≡ calls.handRefused k b →
-        givenBy library b ++ handsFrom library n (calls.handOf b .bytes) ≡ handsFrom library n b
+    stays : (k : ℕ) → eqb k 0 ≡ false → working-calls.handOf b ≡ working-calls.handRefused k b →
+        givenBy library b ++ handsFrom library n (working-calls.handOf b .bytes) ≡ handsFrom library n b
     stays k z e =
         ap (λ (o : calls.Handing). gave o ++ handsFrom library n (o .bytes)) e
         ∙ ap (λ (x : List (List ℕ)). x ++ handsFrom library n b) (passed-over (eqb k 0) _ [] z)
 
     go : Handed b → ((x : List ℕ) → isBoard x ≡ true → handsFrom library n x ≡ take (min n (emptiesIn x)) (dueHeaders (boardOf x)))
-        → givenBy library b ++ handsFrom library n (calls.handOf b .bytes) ≡ take (min (suc n) (emptiesIn b)) d
+        → givenBy library b ++ handsFrom library n (working-calls.handOf b .bytes) ≡ take (min (suc n) (emptiesIn b)) d
     go (Handed.bad f e) ih = absurd (true≢false (sym ok ∙ f))
     go (Handed.nothing _ f e) ih = stays 16 refl e ∙ ih b ok ∙ none (min n (emptiesIn b)) ∙ sym (none (min (suc n) (emptiesIn b)))
       where
@@ -128,7 +130,7 @@ hands (suc n) b ok = go (handed b) (hands n)
         ∙ ap (λ (k : ℕ). take k (g .first ∷ g .others)) (suc-min-suc n (emptiesIn b′)))
       where
         b′ : List ℕ
-        b′ = calls.handOf b .bytes
+        b′ = working-calls.handOf b .bytes
 
         next : dueHeaders (boardOf b′) ≡ g .others
         next = sym (found-due b′ (g .left .keeps)) ∙ ap due (g .left .holds) ∙ due-next (boardOf b) (g .first) (g .others) (found-due b ok ∙ g .due-are)
@@ -156,7 +158,7 @@ call-records (offers m ∷ cs) = go (noneApplies (takenRows m)) refl (call-recor
 handed-is : (cs : List Call) (b : List ℕ) → isBoard b ≡ true → handedOut library cs b ≡ board.givenOver (callsOf cs) b
 unfolding carried
 handed-is [] b ok = refl
-handed-is (handsOut ∷ cs) b ok = ap (λ (l : List (List ℕ)). givenBy library b ++ l) (handed-is cs (calls.handOf b .bytes) (hand-out-keeps b ok .0))
+handed-is (handsOut ∷ cs) b ok = ap (λ (l : List (List ℕ)). givenBy library b ++ l) (handed-is cs (working-calls.handOf b .bytes) (hand-out-keeps b ok .0))
 handed-is (offers m ∷ cs) b ok = go (noneApplies (takenRows m)) refl (handed-is cs (offerOf b m .bytes) (offer-keeps b m ok .0))
   where
     go : (t : Bool) → noneApplies (takenRows m) ≡ t → handedOut library cs (offerOf b m .bytes) ≡ board.givenOver (callsOf cs) (offerOf b m .bytes) →

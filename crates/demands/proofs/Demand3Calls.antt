@@ -12,14 +12,16 @@ use native.Mathlib.Nat.{add-zero}
 use native.Mathlib.Omega.{arith}
 use lib.ListN.{length}
 use Rattle.octets.specs.Bytes.{every}
-use Rattle.judgement.specs.Judged.{judgedOf}
+use Rattle.judgement.specs.WorkingJudged.{judgedOf}
 use Rattle.records.specs.Record.{aired}
 use Rattle.ledger.specs.Sorted.{insert, insertAll}
 use Rattle.board.specs.Rules.{boardOf}
 use Rattle.board.specs.Calls as calls
+use Rattle.board.specs.WorkingCalls as working-calls
 use Rattle.board.specs.declared.Handed as board
 use Rattle.board.proofs.Boards.{kept}
-use Rattle.offers.specs.Offer.{Offering, offerOf}
+use Rattle.offers.specs.Offer.{Offering}
+use Rattle.offers.specs.WorkingOffer.{offerOf}
 use Rattle.offers.specs.declared.Offered as offer
 use Rattle.told.specs.Values.{firstOf}
 use Rattle.demands.specs.Calls.{library}
@@ -99,7 +101,7 @@ pub list-rows : (b : List ℕ) (rows : ℕ) → library .listing b rows .answer 
     (library .listing b rows .rows ≡ map (rowOf (boardOf b)) (dueHeaders (boardOf b))) × (library .listing b rows .answer .count ≡ length (dueHeaders (boardOf b)))
 list-rows b rows z = go (listed b rows)
   where
-    go : Listed b rows → (calls.listOf b rows .rows ≡ rowsOn b) × (calls.listOf b rows .answer .count ≡ length (dueHeaders (boardOf b)))
+    go : Listed b rows → (working-calls.listOf b rows .rows ≡ rowsOn b) × (working-calls.listOf b rows .answer .count ≡ length (dueHeaders (boardOf b)))
     go (Listed.bad _ e) = absurd (let q : 1 ≡ 0 = sym (ap (λ (o : calls.Listing). o .answer .number) e) ∙ z in omega arith)
     go (Listed.short _ _ e) = absurd (let q : 2 ≡ 0 = sym (ap (λ (o : calls.Listing). o .answer .number) e) ∙ z in omega arith)
     go (Listed.listing _ _ e) = (ap (λ (o : calls.Listing). o .rows) e, ap (λ (o : calls.Listing). o .answer .count) e)

@@ -19,8 +19,8 @@ use Rattle.records.proofs.ZeroFill.{zeros-are}
 use Rattle.records.proofs.Records.{record-long, kind-decides, header-long, kind-withdrawal, kind-aired, withdrawal-inj, aired-inj}
 use Rattle.ledger.specs.declared.Row.{Row}
 use Rattle.ledger.specs.Sorted.{In, has, Sorted, insertAll}
-use Rattle.ledger.specs.Board as ledger
-use Rattle.ledger.specs.Board.{carried, unwithdrawn, live, headers, carries, countOf, due, rowsOf}
+use Rattle.ledger.specs.WorkingBoard as ledger
+use Rattle.ledger.specs.WorkingBoard.{carried, unwithdrawn, live, headers, carries, countOf, due, rowsOf}
 use Rattle.ledger.proofs.Sorts.{has-in, in-insertAll, insertAll-sorted, in-map, every-in}
 use Rattle.told.specs.Values.{passing}
 use Rattle.demands.specs.Board.{some, withdrawn, airedOn, carriesIt, makesDue, dueHeaders, Due, indexOf, rowOf}

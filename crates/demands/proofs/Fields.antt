@@ -13,15 +13,16 @@ use Rattle.octets.specs.Bytes.{pick, every, isVisible}
 use Rattle.clock.specs.Time.{timeOf, isTime}
 use Rattle.clock.specs.declared.Time.{Time}
 use Rattle.fields.specs.Fields as fields
-use Rattle.fields.specs.References.{groupOk, referencesOk}
+use Rattle.fields.specs.WorkingFields as working-fields
+use Rattle.fields.specs.WorkingFields.{groupOk, referencesOk}
 use Rattle.fields.specs.declared.MsgType.{MsgType}
-use Rattle.faults.specs.Field.{lowest}
+use Rattle.faults.specs.WorkingField.{lowest}
 use Rattle.markup.specs.Tree.{Forest, One, one, none}
 use Rattle.markup.specs.Document.{docAt}
 use Rattle.reads.specs.declared.Alert.{Alert}
-use Rattle.gather.specs.Read.{leafIn, alertOf}
+use Rattle.gather.specs.WorkingRead.{leafIn, alertOf}
 use Rattle.leaves.proofs.Reals.{AllReal, leaf-is}
-use Rattle.message.specs.Judged.{identified, timed, valued, typed, isUnknown, infoOk, fieldOf, referenced}
+use Rattle.message.specs.WorkingJudged.{identified, timed, valued, typed, isUnknown, infoOk, fieldOf, referenced}
 use Rattle.told.specs.Values.{isOne, valueOf, once, infoSound, languagesSound}
 use Rattle.told.proofs.Leaves.{leaf-once, leaf-value}
 use Rattle.told.proofs.Alerts.{info-sound, selected-tells, selected-real, languages-fault}
@@ -46,29 +47,29 @@ module _ (s p : List ℕ) (w : String) (t : Forest) (r : AllReal s t) where
   unfolding referenced referencesOk groupOk fields.identityOk fields.isIdentity isVisible
   referenced-is = rw (leaf-once s p w t r, leaf-value s p w t r)
 
-  valued-is : (ws : List String) → valued s ws (leafIn s p w t) ≡ pick (once s p w t) (fields.indexIn ws (valueOf s p w t)) 0
+  valued-is : (ws : List String) → valued s ws (leafIn s p w t) ≡ pick (once s p w t) (working-fields.indexIn ws (valueOf s p w t)) 0
   unfolding valued
   valued-is ws = rw (leaf-once s p w t r, leaf-value s p w t r)
 
   unvalued-is : (ws : List String) → eqb (valued s ws (leafIn s p w t)) 0 ≡ not (once s p w t && isOne ws (valueOf s p w t))
   unvalued-is ws = rw (valued-is ws) (go (once s p w t))
     where
-      go : (b : Bool) → eqb (pick b (fields.indexIn ws (valueOf s p w t)) 0) 0 ≡ not (b && isOne ws (valueOf s p w t))
+      go : (b : Bool) → eqb (pick b (working-fields.indexIn ws (valueOf s p w t)) 0) 0 ≡ not (b && isOne ws (valueOf s p w t))
       go true = index-none ws (valueOf s p w t)
       go false = refl
 
-  typed-is : typed s (leafIn s p w t) ≡ pick (once s p w t) (fields.msgTypeIn (valueOf s p w t)) MsgType.Unknown
+  typed-is : typed s (leafIn s p w t) ≡ pick (once s p w t) (working-fields.msgTypeIn (valueOf s p w t)) MsgType.Unknown
   unfolding typed
   typed-is = rw (leaf-once s p w t r, leaf-value s p w t r)
 
   untyped-is : isUnknown (typed s (leafIn s p w t)) ≡ not (once s p w t && isOne msgTypes (valueOf s p w t))
   untyped-is = rw typed-is (go (once s p w t))
     where
-      go : (b : Bool) → isUnknown (pick b (fields.msgTypeIn (valueOf s p w t)) MsgType.Unknown) ≡ not (b && isOne msgTypes (valueOf s p w t))
+      go : (b : Bool) → isUnknown (pick b (working-fields.msgTypeIn (valueOf s p w t)) MsgType.Unknown) ≡ not (b && isOne msgTypes (valueOf s p w t))
       go true = unknown-is (valueOf s p w t)
       go false = refl
 
-  pub typed-once : once s p w t ≡ true → typed s (leafIn s p w t) ≡ fields.msgTypeIn (valueOf s p w t)
+  pub typed-once : once s p w t ≡ true → typed s (leafIn s p w t) ≡ working-fields.msgTypeIn (valueOf s p w t)
   typed-once o = rw (typed-is, o)
 
   pub place-test : (f : ℕ → Bool) → f 0 ≡ false → (ws : List String) → distinct ws ≡ true → once s p w t ≡ true →
@@ -130,9 +131,9 @@ module _ (s : List ℕ) where
         identified-is s p "sender" t r,
         timed-is s p "sent" t r,
         time-read (once s p "sent" t) (timeOf (sent s)),
-        unvalued-is s p "status" t r fields.statuses,
+        unvalued-is s p "status" t r working-fields.statuses,
         untyped-is s p "msgType" t r,
-        unvalued-is s p "scope" t r fields.scopes,
+        unvalued-is s p "scope" t r working-fields.scopes,
         others-faulty,
       )
       (lowest-is _ _ _ _ _ _ _)

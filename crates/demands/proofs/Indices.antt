@@ -13,7 +13,7 @@ use Rattle.octets.specs.Bytes.{pick}
 use Rattle.octets.specs.Text.{bytes}
 use Rattle.octets.proofs.Tests.{and-left, and-right}
 use Rattle.octets.proofs.Sames.{same-is}
-use Rattle.fields.specs.Fields.{later, indexIn}
+use Rattle.fields.specs.WorkingFields.{later, indexIn}
 use Rattle.told.specs.Values.{is, isOne}
 
 -- no word twice

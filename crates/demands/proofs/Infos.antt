@@ -22,15 +22,16 @@ use Rattle.parts.specs.Originator.{originatorBytes, originatorOf, isKnown}
 use Rattle.parts.specs.Parts.{eventOk}
 use Rattle.parts.specs.declared.Originator.the-variants.{Pep, Eas, Wxr, Civ}
 use Rattle.parts.specs.declared.Origin.the-variants.{Known, Unknown}
-use Rattle.reads.specs.Leaves.{blank}
+use Rattle.reads.specs.WorkingLeaves.{blank}
 use Rattle.reads.specs.declared.Info.{Info}
 use Rattle.reads.specs.declared.Leaf.{Leaf}
 use Rattle.reads.specs.declared.Locations.{Locations}
-use Rattle.gather.specs.Read.{Element, named, infoOf}
+use Rattle.gather.specs.Read.{Element, named}
+use Rattle.gather.specs.WorkingRead.{infoOf}
 use Rattle.leaves.specs.Leaf.{leafValue}
-use Rattle.message.specs.Message.{judged}
-use Rattle.judgement.specs.Rules.{eventIs, originOf, located, secondsTo, unplaced, quietOf}
-use Rattle.judgement.specs.Judged.{lasting}
+use Rattle.message.specs.WorkingMessage.{judged}
+use Rattle.judgement.specs.WorkingRules.{eventIs, originOf, located, secondsTo, unplaced, quietOf}
+use Rattle.judgement.specs.WorkingJudged.{lasting}
 use Rattle.told.specs.Values.{isNone, passing, firstOf, is, isOne, valuesNamed, parameters, isSix, audioIn}
 use Rattle.told.proofs.Leaves.{leaf-value, leaf-none}
 use Rattle.told.proofs.Infos.{FoundTells, events-tell, parameters-tell, AudioTells, audio-tells}

@@ -15,17 +15,17 @@ use Rattle.octets.specs.Bytes.{pick, every}
 use Rattle.octets.specs.Digits.{value}
 use Rattle.octets.proofs.Tests.{and-right}
 use Rattle.values.specs.Value.{valueAt}
-use Rattle.gather.specs.Read.{leafIn, alertOf}
-use Rattle.message.specs.Message.{judged, messageOf}
+use Rattle.gather.specs.WorkingRead.{leafIn, alertOf}
+use Rattle.message.specs.WorkingMessage.{judged, messageOf}
 use Rattle.message.specs.declared.Message.{Message}
-use Rattle.judgement.specs.Rules.{located, quietOf}
-use Rattle.judgement.specs.Judged.{without, bodyWith, bodyIn, alerted, judgedBy, judgedOf}
+use Rattle.judgement.specs.WorkingRules.{located, quietOf}
+use Rattle.judgement.specs.WorkingJudged.{without, bodyWith, bodyIn, alerted, judgedBy, judgedOf}
 use Rattle.judgement.specs.declared.Judged.{Judged}
 use Rattle.judgement.proofs.Answers.{alerted-holds, judged-holds}
 use Rattle.judgement.proofs.Bodies.{alerting, alert-body, message-kept}
-use Rattle.convert.specs.Convert.{textIn, uriIn, alertGiven}
+use Rattle.convert.specs.WorkingConvert.{textIn, uriIn, alertGiven}
 use Rattle.records.specs.Record.{notice, withdrawal}
-use Rattle.offers.specs.Records.{ownIn, headerIn, namedBy, alertBy, recordsOf}
+use Rattle.offers.specs.WorkingRecords.{ownIn, headerIn, namedBy, alertBy, recordsOf}
 use Rattle.told.specs.Values.{isNone, valueOf, isSix}
 use Rattle.told.proofs.Leaves.{leaf-value}
 use Rattle.demands.specs.Message.{prefix, alert, locations, isQuiet, headerBody, wholeOf}

@@ -8,8 +8,8 @@ use mathlib.Core.List.{List, [], _∷_}
 use Rattle.octets.specs.Bytes.{same}
 use Rattle.octets.specs.Text.{bytes}
 use Rattle.octets.proofs.Sames.{same-is}
-use Rattle.fields.specs.Fields.{msgTypeIn}
-use Rattle.message.specs.Judged.{isUnknown, isAckOrError, asksReferences, isCancel}
+use Rattle.fields.specs.WorkingFields.{msgTypeIn}
+use Rattle.message.specs.WorkingJudged.{isUnknown, isAckOrError, asksReferences, isCancel}
 use Rattle.told.specs.Values.{is, isOne}
 
 -- those of CAP 1.2

@@ -12,16 +12,17 @@ use borrow.Author.Tests.{eq-eqb}
 use Rattle.octets.specs.Bytes.{pick}
 use Rattle.parts.specs.declared.Body.{Body}
 use Rattle.header.specs.Body.{bodyBytes}
-use Rattle.judgement.specs.Judged.{judgedOf}
+use Rattle.judgement.specs.WorkingJudged.{judgedOf}
 use Rattle.records.specs.Record.{recordOk, pad}
 use Rattle.ledger.specs.Sorted.{In}
-use Rattle.ledger.specs.Board.{Alert, records, Shaped, Carried}
+use Rattle.ledger.specs.WorkingBoard.{Alert, records, Shaped, Carried}
 use Rattle.ledger.proofs.Sorts.{every-in, in-map}
-use Rattle.board.specs.Rules.{Records}
-use Rattle.board.specs.Calls as calls
-use Rattle.board.specs.Runs.{offersTo, AllTaken, AllRecords}
-use Rattle.offers.specs.Records.{headerIn, alertBy, recordsOf}
-use Rattle.offers.specs.Offer.{Offering, given, offerOf}
+use Rattle.board.specs.WorkingRules.{Records}
+use Rattle.board.specs.WorkingCalls as calls
+use Rattle.board.specs.WorkingRuns.{offersTo, AllTaken, AllRecords}
+use Rattle.offers.specs.WorkingRecords.{headerIn, alertBy, recordsOf}
+use Rattle.offers.specs.Offer.{Offering}
+use Rattle.offers.specs.WorkingOffer.{given, offerOf}
 use Rattle.offers.proofs.Taken.{shaped, records-ok}
 use Rattle.offers.proofs.Offering.{offer-zero}
 use Rattle.told.specs.Values.{passing}

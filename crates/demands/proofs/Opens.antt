@@ -3,12 +3,13 @@
 use mathlib.Core.List.{flatMap}
 use Rattle.leaves.specs.Leaf.{decoded, leafValue}
 use Rattle.records.specs.Record.{aired, header, headerOk, key, keyOf, keyOk, notice, pad, recordOk, rest, sentIn, stampIn, withdrawal, zeroFilled}
-use Rattle.ledger.specs.Board.{carried, carries, due, live, unwithdrawn}
-use Rattle.board.specs.Calls.{handOf}
-use Rattle.board.specs.Calls as board-calls
-use Rattle.board.specs.Rules.{boardOf, boardOk, encode}
-use Rattle.offers.specs.Offer as offers-offer
-use Rattle.offers.specs.Records.{alertBy, headerIn, namedBy, ownIn, recordsOf}
+use Rattle.ledger.specs.WorkingBoard.{carried, carries, due, live, unwithdrawn}
+use Rattle.board.specs.WorkingCalls.{handOf}
+use Rattle.board.specs.WorkingCalls as board-calls
+use Rattle.board.specs.Rules.{boardOf}
+use Rattle.board.specs.WorkingRules.{boardOk, encode}
+use Rattle.offers.specs.WorkingOffer as offers-offer
+use Rattle.offers.specs.WorkingRecords.{alertBy, headerIn, namedBy, ownIn, recordsOf}
 use Rattle.demands.specs.Message.{headerBody, wholeOf}
 use Rattle.demands.specs.Numbers.{noneApplies}
 use Rattle.worked.proofs.Opens.{converting}

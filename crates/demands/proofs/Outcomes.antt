@@ -13,20 +13,23 @@ use lib.Dec.{eqb, leb}
 use lib.ListN.{length, length-map}
 use Rattle.octets.specs.Bytes.{every}
 use Rattle.octets.proofs.Tests.{picked, passed-over}
-use Rattle.judgement.specs.Judged.{judgedOf}
+use Rattle.judgement.specs.WorkingJudged.{judgedOf}
 use Rattle.records.specs.Record.{aired, recordOk}
 use Rattle.ledger.specs.declared.Row.{Row}
 use Rattle.ledger.specs.Sorted.{In, insert, insertAll}
-use Rattle.ledger.specs.Board.{carried, due, After, handOutOf, handOut}
+use Rattle.ledger.specs.WorkingBoard.{carried, due, After, handOutOf, handOut}
 use Rattle.ledger.proofs.Sorts.{insert-new, every-in, in-every}
 use Rattle.ledger.proofs.Dues.{in-due}
-use Rattle.board.specs.Rules.{Records, boardOf, boardOk}
+use Rattle.board.specs.WorkingRules.{Records, boardOk}
+use Rattle.board.specs.Rules.{boardOf}
 use Rattle.board.specs.Calls as calls
+use Rattle.board.specs.WorkingCalls as working-calls
 use Rattle.board.proofs.Boards.{kept, board-within}
 use Rattle.board.proofs.Answers.{hand-bad, list-bad}
 use Rattle.board.proofs.Keeps as keeps
-use Rattle.offers.specs.Records.{recordsOf}
-use Rattle.offers.specs.Offer.{Offering, refused, given, offerOf}
+use Rattle.offers.specs.WorkingRecords.{recordsOf}
+use Rattle.offers.specs.Offer.{Offering}
+use Rattle.offers.specs.WorkingOffer.{refused, given, offerOf}
 use Rattle.offers.proofs.Taken.{records-ok}
 use Rattle.offers.proofs.Offering.{offer-board, offer-message, offer-zero}
 use Rattle.demands.specs.Calls.{library}
@@ -74,7 +77,7 @@ module _ (b s : List ℕ) (ok : boardOk b ≡ true) (z : judgedOf s .number ≡ 
   good : Records (recordsOf s)
   good = every-in recordOk (recordsOf s) (records-ok s)
 
-  bytes-are : offerOf b s .bytes ≡ calls.offerOf b (recordsOf s) .bytes
+  bytes-are : offerOf b s .bytes ≡ working-calls.offerOf b (recordsOf s) .bytes
   bytes-are = ap (λ (o : Offering). o .bytes) (offer-zero b s z)
 
   records-offered : keeps.Offer b (recordsOf s) → Offered b s
@@ -124,15 +127,15 @@ pub record Given (b : List ℕ) : Type 0 where
   pub first : List ℕ
   pub others : List (List ℕ)
   pub due-are : dueHeaders (boardOf b) ≡ first ∷ others
-  pub room : emptiesIn b ≡ suc (emptiesIn (calls.handOf b .bytes))
-  pub answer : calls.handOf b .answer ≡ record { number = 0; index = indexOf (makesDue (boardOf b) first) (boardOf b) }
+  pub room : emptiesIn b ≡ suc (emptiesIn (working-calls.handOf b .bytes))
+  pub answer : working-calls.handOf b .answer ≡ record { number = 0; index = indexOf (makesDue (boardOf b) first) (boardOf b) }
   pub gives : givenBy library b ≡ first ∷ []
-  pub left : Left b (insert (aired first) (boardOf b)) (calls.handOf b .bytes)
+  pub left : Left b (insert (aired first) (boardOf b)) (working-calls.handOf b .bytes)
 
 pub data Handed (b : List ℕ) : Type 0 where
-  bad : isBoard b ≡ false → calls.handOf b ≡ calls.handRefused 1 b → Handed b
-  nothing : isBoard b ≡ true → dueHeaders (boardOf b) ≡ [] → calls.handOf b ≡ calls.handRefused 16 b → Handed b
-  full : isBoard b ≡ true → (h : List ℕ) (hs : List (List ℕ)) → dueHeaders (boardOf b) ≡ h ∷ hs → emptiesIn b ≡ 0 → calls.handOf b ≡ calls.handRefused 15 b
+  bad : isBoard b ≡ false → working-calls.handOf b ≡ working-calls.handRefused 1 b → Handed b
+  nothing : isBoard b ≡ true → dueHeaders (boardOf b) ≡ [] → working-calls.handOf b ≡ working-calls.handRefused 16 b → Handed b
+  full : isBoard b ≡ true → (h : List ℕ) (hs : List (List ℕ)) → dueHeaders (boardOf b) ≡ h ∷ hs → emptiesIn b ≡ 0 → working-calls.handOf b ≡ working-calls.handRefused 15 b
       → Handed b
   handing : Given b → Handed b
 
@@ -159,7 +162,7 @@ module _ (b : List ℕ) (ok : boardOk b ≡ true) where
     gives-it : length aired-too ≤ length b / 384 → handOut (length b / 384) (boardOf b) ≡ record { board = aired-too; given = h ∷ [] }
     gives-it l = ap (handOutOf (length b / 384) (boardOf b)) f ∙ picked (leb (length aired-too) (length b / 384)) _ _ (le-leb (length aired-too) (length b / 384) l)
 
-    leaves : length aired-too ≤ length b / 384 → Left b aired-too (calls.handOf b .bytes)
+    leaves : length aired-too ≤ length b / 384 → Left b aired-too (working-calls.handOf b .bytes)
     leaves l = record {
       keeps = board-same _ ∙ keeps.hand-out-keeps b ok;
       long = keeps.hand-long b ok;
@@ -191,11 +194,11 @@ module _ (b : List ℕ) where
       go false ok = bad (board-same b ∙ ok) (hand-bad b ok)
       go true ok = header-handed b ok (keeps.hand-is b ok)
 
-  pub hand-out-cases : (P : calls.Handing → Type 0) → ((n : ℕ) → (n ≡ 0 → ⊥) → P (calls.handRefused n b)) → (Given b → P (calls.handOf b)) →
-      P (calls.handOf b)
+  pub hand-out-cases : (P : calls.Handing → Type 0) → ((n : ℕ) → (n ≡ 0 → ⊥) → P (working-calls.handRefused n b)) → (Given b → P (working-calls.handOf b)) →
+      P (working-calls.handOf b)
   hand-out-cases P no-change change = go handed
     where
-      go : Handed b → P (calls.handOf b)
+      go : Handed b → P (working-calls.handOf b)
       go (bad _ e) = subst P (sym e) (no-change 1 (λ z. omega arith))
       go (nothing _ _ e) = subst P (sym e) (no-change 16 (λ z. omega arith))
       go (full _ _ _ _ _ e) = subst P (sym e) (no-change 15 (λ z. omega arith))
@@ -208,15 +211,15 @@ abbrev pub rowsOn : List ℕ → List Row
 rowsOn b = map (rowOf (boardOf b)) (dueHeaders (boardOf b))
 
 pub data Listed (b : List ℕ) (m : ℕ) : Type 0 where
-  bad : isBoard b ≡ false → calls.listOf b m ≡ calls.listRefused 1 → Listed b m
-  short : isBoard b ≡ true → m < length (dueHeaders (boardOf b)) → calls.listOf b m ≡ calls.listRefused 2 → Listed b m
+  bad : isBoard b ≡ false → working-calls.listOf b m ≡ working-calls.listRefused 1 → Listed b m
+  short : isBoard b ≡ true → m < length (dueHeaders (boardOf b)) → working-calls.listOf b m ≡ working-calls.listRefused 2 → Listed b m
   listing : isBoard b ≡ true → length (dueHeaders (boardOf b)) ≤ m
-      → calls.listOf b m ≡ record { answer = record { number = 0; count = length (dueHeaders (boardOf b)) }; rows = rowsOn b } → Listed b m
+      → working-calls.listOf b m ≡ record { answer = record { number = 0; count = length (dueHeaders (boardOf b)) }; rows = rowsOn b } → Listed b m
 
 module _ (b : List ℕ) (m : ℕ) where
-  list-to : boardOk b ≡ true → calls.listOf b m ≡ calls.listTo (rowsOn b) m
-  unfolding calls.listOf
-  list-to ok = picked (boardOk b) _ _ ok ∙ ap (λ (rows : List Row). calls.listTo rows m) (rows-same (boardOf b) (each-keeps b ok))
+  list-to : boardOk b ≡ true → working-calls.listOf b m ≡ working-calls.listTo (rowsOn b) m
+  unfolding working-calls.listOf
+  list-to ok = picked (boardOk b) _ _ ok ∙ ap (λ (rows : List Row). working-calls.listTo rows m) (rows-same (boardOf b) (each-keeps b ok))
 
   many : length (rowsOn b) ≡ length (dueHeaders (boardOf b))
   many = length-map (dueHeaders (boardOf b)) (rowOf (boardOf b))

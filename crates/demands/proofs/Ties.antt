@@ -19,7 +19,7 @@ use contract.Monad.{Fun, fact}
 use denote.Ref.{now}
 use Rattle.octets.specs.Bytes.{pick}
 use Rattle.octets.specs.Text.{bytes}
-use Rattle.parts.specs.Asked.{askedParts}
+use Rattle.parts.specs.WorkingAsked.{askedParts}
 use Rattle.parts.specs.declared.Parts.{Parts}
 use Rattle.header.specs.declared.Read.{Read}
 use Rattle.header.specs.declared.Written.{Written}
@@ -29,7 +29,8 @@ use Rattle.header.proofs.write_asked.Reads as write-asked
 use Rattle.convert.specs.Convert.{Outcome, answerOf}
 use Rattle.convert.specs.declared.Converted.{Converted}
 use Rattle.convert.proofs.convert.Reads as convert
-use Rattle.board.specs.Calls.{Handing, Listing, blanks}
+use Rattle.board.specs.Calls.{Handing, Listing}
+use Rattle.board.specs.WorkingCalls.{blanks}
 use Rattle.board.specs.declared.Handed.{Handed}
 use Rattle.board.specs.declared.Listed.{Listed}
 use Rattle.board.specs.declared.Rows as board-rows

@@ -5,9 +5,12 @@ use Rattle.parts.specs.declared.Parts.{Parts}
 use Rattle.header.specs.declared.Read.{Read}
 use Rattle.header.specs.declared.Written.{Written}
 use Rattle.header.specs.Header.{readOf, writeOf, writeBytes}
-use Rattle.convert.specs.Convert.{Outcome, convertOf}
-use Rattle.board.specs.Calls.{Handing, handOf, Listing, listOf}
-use Rattle.offers.specs.Offer.{Offering, offerOf}
+use Rattle.convert.specs.Convert.{Outcome}
+use Rattle.convert.specs.WorkingConvert.{convertOf}
+use Rattle.board.specs.Calls.{Handing, Listing}
+use Rattle.board.specs.WorkingCalls.{handOf, listOf}
+use Rattle.offers.specs.Offer.{Offering}
+use Rattle.offers.specs.WorkingOffer.{offerOf}
 
 -- what writing a header answers, and the output after it
 pub record Writing : Type 0 where

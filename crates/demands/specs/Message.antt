@@ -9,7 +9,7 @@ use Rattle.clock.specs.Time.{timeOf, instantIn}
 use Rattle.clock.specs.Period.{periodOf}
 use Rattle.clock.specs.Stamp.{stampOf}
 use Rattle.parts.specs.Originator.{originatorOf, known}
-use Rattle.parts.specs.Asked.{padded}
+use Rattle.parts.specs.Parts.{padded}
 use Rattle.parts.specs.declared.Body.{Body}
 use Rattle.parts.specs.declared.Parts.{Parts}
 use Rattle.header.specs.Header.{headerBytes}

@@ -11,10 +11,13 @@ use Rattle.octets.specs.Bytes.{pick}
 use Rattle.octets.specs.Text.{bytes}
 use Rattle.parts.specs.declared.Parts.{Parts}
 use Rattle.told.specs.Values.{isNone}
-use Rattle.convert.specs.Convert.{Given, Outcome, nothing, refusedWith}
+use Rattle.convert.specs.Convert.{Given, Outcome, nothing}
+use Rattle.convert.specs.WorkingConvert.{refusedWith}
 use Rattle.records.specs.Record.{kind, pad, keyOf, notice}
-use Rattle.board.specs.Rules.{boardOf, encode}
-use Rattle.board.specs.Calls.{Handing, handRefused}
+use Rattle.board.specs.Rules.{boardOf}
+use Rattle.board.specs.WorkingRules.{encode}
+use Rattle.board.specs.Calls.{Handing}
+use Rattle.board.specs.WorkingCalls.{handRefused}
 use Rattle.offers.specs.Offer.{Offering}
 use Rattle.demands.specs.Calls.{Calls, library}
 use Rattle.demands.specs.Board.{some}

@@ -9,7 +9,7 @@ use lib.ListN.{length, set}
 use lib.Bits.{bitOr, or-step, or-zero-r}
 use lib.Count.{trailingZeros, under}
 use Rattle.octets.specs.Bytes.{pick}
-use Rattle.faults.specs.Field.{bit, bitsOf, onward, lowest}
+use Rattle.faults.specs.WorkingField.{bit, bitsOf, onward, lowest}
 
 -- the lowest digit, and the rest
 pub lows : (bs : List Bool) (b : Bool) → bitsOf (b ∷ bs) % 2 ≡ bit b

@@ -3,7 +3,7 @@ ghost use mathlib.Core.Path.{_≡_};
 ghost use mathlib.Core.List.{[], _∷_};
 ghost use lib.Bits.{bitOr};
 ghost use Rattle.octets.specs.Bytes.{pick};
-ghost use Rattle.faults.specs.Field.{bitsOf, lowest};
+ghost use Rattle.faults.specs.WorkingField.{bitsOf, lowest};
 
 // The bit of each field.
 const IDENTIFIER: u32 = 1;

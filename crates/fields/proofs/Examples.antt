@@ -8,7 +8,8 @@ use Rattle.octets.specs.Text.{bytes}
 use Rattle.clock.specs.Calendar.{divides, leap, yearDays, months, sum, monthDays, daysBefore, daysTo, dayNumber}
 use Rattle.clock.specs.Time.{isSign, signed, since2000, utc, within, timeOf}
 use Rattle.fields.specs.Fields.{isIdentity, identityOk}
-use Rattle.fields.specs.References.{upTo, behind, groupOk, words, referencesOk}
+use Rattle.fields.specs.References.{upTo, behind, words}
+use Rattle.fields.specs.WorkingFields.{groupOk, referencesOk}
 
 abbrev refers : String → Bool
 refers v = referencesOk (bytes v)

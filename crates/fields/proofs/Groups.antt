@@ -14,7 +14,8 @@ use Rattle.octets.proofs.Everys.{last-decides}
 use Rattle.clock.specs.Time.{timeOf, isTime}
 use Rattle.clock.specs.declared.Time.{Time}
 use Rattle.fields.specs.Fields.{identityOk}
-use Rattle.fields.specs.References.{upTo, behind, senderOf, identifierOf, sentOf, groupOk}
+use Rattle.fields.specs.References.{upTo, behind, senderOf, identifierOf, sentOf}
+use Rattle.fields.specs.WorkingFields.{groupOk}
 use Rattle.fields.proofs.Partings.{upTo-none, upTo-take, upTo-short, behind-drop, parts-long}
 use Rattle.fields.proofs.Identities.{identity-no, identity-short, time-not, time-short}
 

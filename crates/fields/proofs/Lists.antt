@@ -11,10 +11,12 @@ use lib.ListN.{length, take, drop, replicate}
 use lib.Seq.{sets}
 use Rattle.octets.specs.Bytes.{pick, every, holds, between, oneOf}
 use Rattle.octets.proofs.Tests.{every-of, one-fails, every-step, every-stop, every-none}
-use Rattle.values.specs.Value.{valueAt, restAt, leadAt}
+use Rattle.values.specs.Value.{valueAt}
+use Rattle.values.specs.WorkingSteps.{restAt, leadAt}
 use Rattle.values.proofs.Steps.{value-start}
-use Rattle.fields.specs.References.{groupOk, words, referencesOk}
-use Rattle.fields.specs.Words.{wordIn, nextWord, wordAt}
+use Rattle.fields.specs.WorkingFields.{groupOk, referencesOk}
+use Rattle.fields.specs.References.{words}
+use Rattle.fields.specs.WorkingWords.{wordIn, nextWord, wordAt}
 use Rattle.fields.specs.declared.Word.{Word}
 use Rattle.fields.proofs.Buffers.{taken-back}
 use Rattle.fields.proofs.Words.{words-some, value-words, len-is}

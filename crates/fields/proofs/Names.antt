@@ -6,7 +6,7 @@ use mathlib.Core.Bool.{Bool, true, false}
 use mathlib.Core.List.{List, [], _∷_}
 use Rattle.octets.specs.Bytes.{same}
 use Rattle.octets.specs.Text.{bytes}
-use Rattle.fields.specs.Fields.{later, indexIn}
+use Rattle.fields.specs.WorkingFields.{later, indexIn}
 
 -- r says whether the value v is the first name
 module _ (w : String) (ws : List String) (v : List ℕ) {r : Bool} (e : r ≡ same v (bytes w)) where

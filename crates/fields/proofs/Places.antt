@@ -9,8 +9,8 @@ use native.Mathlib.Omega.{arith}
 use lib.ListN.{length}
 use Rattle.octets.specs.Bytes.{pick, same}
 use Rattle.octets.specs.Text.{bytes}
-use Rattle.words.specs.Words.{whichOf}
-use Rattle.fields.specs.Fields.{later, indexIn}
+use Rattle.words.specs.WorkingWords.{whichOf}
+use Rattle.fields.specs.WorkingFields.{later, indexIn}
 
 -- i is place k of n, counted from 1, and 0 past the last
 pub record Counted (n k i : ℕ) : Type 0 where

@@ -14,13 +14,14 @@ use lib.Seq.{sets}
 use Rattle.octets.specs.Bytes.{pick, oneOf}
 use Rattle.octets.proofs.Tests.{picked, passed-over}
 use Rattle.octets.proofs.Runs.{sets-more}
-use Rattle.values.specs.Value.{runs, restAt, stepAt}
+use Rattle.values.specs.Value.{runs}
+use Rattle.values.specs.WorkingSteps.{restAt, stepAt}
 use Rattle.values.specs.declared.Got.{Got}
 use Rattle.values.specs.declared.Got.the-variants.{Is, Done}
 use Rattle.values.proofs.Texts.{text-past}
 use Rattle.values.proofs.Steps.{step-more, step-done}
 use Rattle.fields.specs.References.{upTo, behind, longer, words}
-use Rattle.fields.specs.Words.{wordIn, onward, nextFrom, nextWord, wordAt}
+use Rattle.fields.specs.WorkingWords.{wordIn, onward, nextFrom, nextWord, wordAt}
 use Rattle.fields.specs.declared.Word.{Word}
 use Rattle.fields.proofs.Partings.{upTo-stop, upTo-more, upTo-none, behind-stop, behind-more, behind-none}
 

@@ -1,3 +1,4 @@
 pub mod Fields
 pub mod References
-pub mod Words
+pub mod WorkingWords
+pub mod WorkingFields

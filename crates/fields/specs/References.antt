@@ -1,12 +1,8 @@
 -- References: 1 to 16 groups `sender,identifier,sent` parted by space.
 use Prim.Native.Nat.{ℕ}
-use mathlib.Core.Bool.{Bool}
 use mathlib.Core.List.{List, [], _∷_}
-use lib.ListN.{length}
 use lib.Dec.{eqb}
-use Rattle.octets.specs.Bytes.{pick, every, holds, between}
-use Rattle.clock.specs.Time.{timeOf, isTime}
-use Rattle.fields.specs.Fields.{identityOk}
+use Rattle.octets.specs.Bytes.{pick}
 
 -- what stands before the first c; all where there is none
 unfoldable pub upTo : ℕ → List ℕ → List ℕ
@@ -29,9 +25,6 @@ identifierOf w = upTo 44 (behind 44 w)
 abbrev pub sentOf : List ℕ → List ℕ
 sentOf w = behind 44 (behind 44 w)
 
-unfoldable pub groupOk : List ℕ → Bool
-groupOk w = every holds (identityOk (senderOf w) ∷ identityOk (identifierOf w) ∷ isTime (timeOf (sentOf w)) ∷ [])
-
 -- ---- groups, parted by space
 
 abbrev pub longer : ℕ → List (List ℕ) → List (List ℕ)
@@ -41,6 +34,3 @@ longer c (w ∷ ws) = (c ∷ w) ∷ ws
 unfoldable pub words : List ℕ → List (List ℕ)
 words [] = [] ∷ []
 words (c ∷ cs) = pick (eqb c 32) ([] ∷ words cs) (longer c (words cs))
-
-unfoldable pub referencesOk : List ℕ → Bool
-referencesOk v = every holds (between 1 16 (length (words v)) ∷ every groupOk (words v) ∷ [])

@@ -8,9 +8,11 @@ ghost use lib.ListN.{length, drop};
 ghost use lib.Seq.{sets};
 ghost use Rattle.clock.specs.Time.{timeOf};
 ghost use Rattle.values.specs.Value.{valueAt};
-ghost use Rattle.fields.specs.Fields.{isIdentity, identityOk, indexIn, statuses, scopes, msgTypeIn};
-ghost use Rattle.fields.specs.References.{upTo, groupOk, referencesOk};
-ghost use Rattle.fields.specs.Words.{wordIn, wordAt};
+ghost use Rattle.fields.specs.Fields.{isIdentity, identityOk};
+ghost use Rattle.fields.specs.WorkingFields.{indexIn, statuses, scopes, msgTypeIn};
+ghost use Rattle.fields.specs.References.{upTo};
+ghost use Rattle.fields.specs.WorkingFields.{groupOk, referencesOk};
+ghost use Rattle.fields.specs.WorkingWords.{wordIn, wordAt};
 
 // A word of a value: how many characters it has, whether another follows, and where that begins.
 pub struct Word {

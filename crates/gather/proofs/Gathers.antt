@@ -9,8 +9,8 @@ use lib.ListN.{length}
 use Rattle.octets.specs.Bytes.{pick, same}
 use Rattle.octets.specs.Text.{bytes}
 use Rattle.markup.specs.Tree.{Tag, Forest, nil, text, elem}
-use Rattle.reads.specs.Leaves.{blank, soundOf, noInfo, fresh}
-use Rattle.reads.specs.Steps.{english, isNothing, infoStep, laterStep}
+use Rattle.reads.specs.WorkingLeaves.{blank, soundOf, noInfo, fresh}
+use Rattle.reads.specs.WorkingSteps.{english, isNothing, infoStep, laterStep}
 use Rattle.reads.specs.Names.{infoInside, among, inside, inAlert}
 use Rattle.reads.specs.declared.Leaf.{Leaf}
 use Rattle.reads.specs.declared.Alert.{Alert}
@@ -19,8 +19,9 @@ use Rattle.reads.specs.declared.Kept.the-variants.{Nothing, First, Selected}
 use Rattle.reads.specs.declared.State.{State}
 use Rattle.reads.specs.declared.Context.{Context}
 use Rattle.reads.specs.declared.Context.the-variants as ctx
-use Rattle.gather.specs.Visit.{touchIn, left, within, visit}
-use Rattle.gather.specs.Read.{nameIn, named, placeIn, added, addedAll, leafIn, infoOf, alertOf}
+use Rattle.gather.specs.WorkingVisit.{touchIn, left, within, visit}
+use Rattle.gather.specs.Read.{nameIn, named}
+use Rattle.gather.specs.WorkingRead.{placeIn, added, addedAll, leafIn, infoOf, alertOf}
 use Rattle.gather.proofs.Leaves.{state, el, blanks, Match, here, later, none, match, alert-leaf, step, passes}
 use Rattle.gather.proofs.Infos.{info-ends, in-later}
 use Rattle.gather.proofs.Selects.{Keeping, keptAs, isSelected, keepStep, kept-is}

@@ -11,8 +11,8 @@ use Rattle.octets.specs.Bytes.{same}
 use Rattle.octets.specs.Text.{bytes}
 use Rattle.octets.proofs.Sames.{same-is}
 use Rattle.markup.specs.Tree.{Tag, Forest, nil, text, elem}
-use Rattle.reads.specs.Leaves.{blank, noInfo}
-use Rattle.reads.specs.Steps.{infoStep}
+use Rattle.reads.specs.WorkingLeaves.{blank, noInfo}
+use Rattle.reads.specs.WorkingSteps.{infoStep}
 use Rattle.reads.specs.Names.{among, inside, inInfo, inLater}
 use Rattle.reads.specs.declared.Leaf.{Leaf}
 use Rattle.reads.specs.declared.Events.{Events}
@@ -25,8 +25,9 @@ use Rattle.reads.specs.declared.State.{State}
 use Rattle.reads.specs.declared.Context.{Context}
 use Rattle.reads.specs.declared.Context.the-variants as ctx
 use Rattle.gather.specs.declared.Touch.the-variants.{Holds}
-use Rattle.gather.specs.Visit.{touchIn, pairAdded, pairLeft, left, within, visit}
-use Rattle.gather.specs.Read.{nameIn, named, placeIn, added, addedAll, leafIn, event, parameter, location, resource, area, infoOf}
+use Rattle.gather.specs.WorkingVisit.{touchIn, pairAdded, pairLeft, left, within, visit}
+use Rattle.gather.specs.Read.{nameIn, named}
+use Rattle.gather.specs.WorkingRead.{placeIn, added, addedAll, leafIn, event, parameter, location, resource, area, infoOf}
 use Rattle.gather.proofs.Leaves.{state, el, blanks, Match, here, later, none, match, info-leaf, pair-leaf, step, passes}
 
 -- an info of these leaves and choices

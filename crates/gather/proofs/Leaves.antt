@@ -12,7 +12,7 @@ use Rattle.octets.specs.Bytes.{pick, same}
 use Rattle.octets.specs.Text.{bytes}
 use Rattle.octets.proofs.Sames.{same-is}
 use Rattle.markup.specs.Tree.{Tag, Forest, nil, text, elem}
-use Rattle.reads.specs.Leaves.{blank, marked, found}
+use Rattle.reads.specs.WorkingLeaves.{blank, marked, found}
 use Rattle.reads.specs.Names.{Row, inside}
 use Rattle.reads.specs.declared.Leaf.{Leaf}
 use Rattle.reads.specs.declared.Info.{Info}
@@ -21,8 +21,9 @@ use Rattle.reads.specs.declared.State.{State}
 use Rattle.reads.specs.declared.Context.{Context}
 use Rattle.reads.specs.declared.Context.the-variants as ctx
 use Rattle.gather.specs.declared.Touch.the-variants.{Holds, Stands}
-use Rattle.gather.specs.Visit.{touched, touchedAt, touchIn, left, within, visit}
-use Rattle.gather.specs.Read.{Element, bare, placeIn, markedIf, added}
+use Rattle.gather.specs.WorkingVisit.{touched, touchedAt, touchIn, left, within, visit}
+use Rattle.gather.specs.Read.{Element, bare}
+use Rattle.gather.specs.WorkingRead.{placeIn, markedIf, added}
 
 abbrev pub state : Alert → Info → List Leaf → State
 state a i q = record { alert = a; info = i; pair = q }

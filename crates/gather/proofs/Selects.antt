@@ -6,12 +6,13 @@ use mathlib.Core.Bool.{Bool, true, false, not, _||_, _&&_}
 use mathlib.Core.List.{List, [], _∷_, foldl}
 use lib.ListN.{length}
 use Rattle.octets.specs.Bytes.{pick, every}
-use Rattle.reads.specs.Leaves.{soundOf, noInfo}
-use Rattle.reads.specs.Steps.{english, isNothing}
+use Rattle.reads.specs.WorkingLeaves.{soundOf, noInfo}
+use Rattle.reads.specs.WorkingSteps.{english, isNothing}
 use Rattle.reads.specs.declared.Info.{Info}
 use Rattle.reads.specs.declared.Kept.{Kept}
 use Rattle.reads.specs.declared.Kept.the-variants.{Nothing, First, Selected}
-use Rattle.gather.specs.Read.{Element, infoOf, languageIn, fromEnglish, selection, selected, languagesOk}
+use Rattle.gather.specs.Read.{Element}
+use Rattle.gather.specs.WorkingRead.{infoOf, languageIn, fromEnglish, selection, selected, languagesOk}
 
 -- what an alert keeps of its infos so far
 pub record Keeping : Type 0 where

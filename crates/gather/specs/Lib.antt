@@ -1,2 +1,3 @@
-pub mod Visit
+pub mod WorkingVisit
 pub mod Read
+pub mod WorkingRead

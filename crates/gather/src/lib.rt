@@ -12,7 +12,7 @@ ghost use Prim.Native.Nat.{_+_, _≤_, _<_};
 ghost use lib.ListN.{length};
 ghost use Rattle.tags.specs.Tags.{closeAt};
 ghost use Rattle.markup.specs.Tree.{elemAt, contentAt};
-ghost use Rattle.gather.specs.Visit.{touched, touchAlert, touchInfo, touchPair, touchIn, pairAdded, pairLeft, infoLeft, laterLeft, left, placeOf, refused, settled, finished, gotOne, gotHeld};
+ghost use Rattle.gather.specs.WorkingVisit.{touched, touchAlert, touchInfo, touchPair, touchIn, pairAdded, pairLeft, infoLeft, laterLeft, left, placeOf, refused, settled, finished, gotOne, gotHeld};
 
 // What is learnt of a leaf: that it holds an element, or that one more stands, whose value begins at a place.
 pub enum Touch {

@@ -8,7 +8,7 @@ use Rattle.header.specs.Header.{headerBytes, headerForm, partsOf, refusa
 use Rattle.octets.specs.Bytes.{every, between, same, isDigit, isCapital}
 use Rattle.octets.specs.Digits.{valueFrom, digits, inRange}
 use Rattle.octets.specs.Text.{bytes}
-use Rattle.parts.specs.Asked.{sixes, sixesOk, askedOk, askedBody, askedStation, askedParts}
+use Rattle.parts.specs.WorkingAsked.{sixes, sixesOk, askedOk, askedBody, askedStation, askedParts}
 use Rattle.parts.specs.Originator.{originatorBytes, originatorOf, numbered}
 use Rattle.parts.specs.Parts.{eventOk, isPeriod, bodyOk, isStation, stationOk}
 use Rattle.parts.specs.declared.Originator.the-variants.{Civ}

@@ -17,7 +17,7 @@ use Rattle.octets.proofs.Runs.{behind}
 use Rattle.octets.proofs.Tests.{each-of, every-of, every-step, every-none, every-first, every-rest}
 use Rattle.octets.specs.Bytes.{pick, every, holds, byteAt, part}
 use Rattle.octets.specs.Digits.{allDigits, value, digits}
-use Rattle.parts.specs.Asked.{padded}
+use Rattle.parts.specs.Parts.{padded}
 use Rattle.parts.specs.Parts.{isLocation, noLocations}
 use Rattle.parts.specs.declared.Locations.{Locations}
 

@@ -25,7 +25,7 @@ use Rattle.octets.specs.Bytes.{pick, every, byteAt, part, same}
 use Rattle.octets.specs.Text.{bytes}
 use Rattle.parts.proofs.Has.{ok-of, event-long, event-capitals, Small, small, none-small}
 use Rattle.parts.proofs.Padded.{padded-first, padded-rest, padded-long}
-use Rattle.parts.specs.Asked.{padded}
+use Rattle.parts.specs.Parts.{padded}
 use Rattle.parts.specs.Originator.{originatorBytes, originatorOf, isKnown, known}
 use Rattle.parts.specs.Parts.{isLocation, bodyOk, stationOk}
 use Rattle.parts.specs.declared.Origin.{Origin}

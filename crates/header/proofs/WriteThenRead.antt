@@ -24,7 +24,7 @@ use Rattle.octets.specs.Bytes.{byteAt, part, same}
 use Rattle.octets.specs.Text.{bytes}
 use Rattle.parts.proofs.Has.{Has, has, station-long}
 use Rattle.parts.proofs.Padded.{padded-is}
-use Rattle.parts.specs.Asked.{padded}
+use Rattle.parts.specs.Parts.{padded}
 use Rattle.parts.specs.Originator.{originatorBytes, originatorOf, isKnown, known}
 use Rattle.parts.specs.Parts.{eventOk, bodyTests, bodyOk, stationOk}
 use Rattle.parts.specs.declared.Body.{Body}

@@ -13,7 +13,7 @@ use Rattle.octets.specs.declared.Num.the-variants.{Value, Bad}
 use Rattle.clock.specs.Written.{tttt, jjjhhmm}
 use Rattle.parts.specs.Originator.{originatorBytes, originatorOf, isKnown, known}
 use Rattle.parts.specs.Parts.{eventOk, isPeriod, noLocations, noBody}
-use Rattle.parts.specs.Asked.{padded}
+use Rattle.parts.specs.Parts.{padded}
 use Rattle.parts.specs.declared.Origin.{Origin}
 use Rattle.parts.specs.declared.Origin.the-variants.{Unknown}
 use Rattle.parts.specs.declared.Locations.{Locations}

@@ -10,7 +10,7 @@ ghost use Prim.Native.Nat.{_+_, _*_, _≤_};
 ghost use lib.ListN.{length, take};
 ghost use lib.Seq.{sets};
 ghost use Rattle.parts.specs.Originator.{originatorBytes};
-ghost use Rattle.parts.specs.Asked.{askedParts};
+ghost use Rattle.parts.specs.WorkingAsked.{askedParts};
 ghost use Rattle.header.specs.Body.{locationsBytes, timesBytes, bodyBytes, headRead, locationsRead, periodRead, timeRead, lengthForm, bodyRefusal, readBodyOf};
 ghost use Rattle.header.specs.Header.{headerBytes, refusal, readOf, writeOf, writeBytes};
 

@@ -12,11 +12,11 @@ use borrow.Author.Tests.{eqb-true}
 use lib.Dec.{eqb}
 use Rattle.octets.proofs.Tests.{either-way}
 use Rattle.parts.specs.Originator.{isKnown}
-use Rattle.message.specs.Message.{messageOf}
+use Rattle.message.specs.WorkingMessage.{messageOf}
 use Rattle.message.specs.declared.Message.{Message}
 use Rattle.leaves.proofs.Fits as fits
-use Rattle.judgement.specs.Rules.{infoIn, eventIs, originOf, located, quietOf}
-use Rattle.judgement.specs.Judged.{without, lasting, bodyIn, alerted, judgedBy, judgedOf}
+use Rattle.judgement.specs.WorkingRules.{infoIn, eventIs, originOf, located, quietOf}
+use Rattle.judgement.specs.WorkingJudged.{without, lasting, bodyIn, alerted, judgedBy, judgedOf}
 use Rattle.judgement.specs.declared.Judged.{Judged}
 
 module _ (s : List ℕ) (m : Message) where

@@ -22,11 +22,11 @@ use Rattle.parts.specs.declared.Originator.{Originator}
 use Rattle.parts.proofs.Has.{ok-of, event-long, event-capitals}
 use Rattle.parts.proofs.Periods.{period-quarter, period-half}
 use Rattle.reads.specs.declared.Locations.{Locations}
-use Rattle.message.specs.Message.{messageOf}
+use Rattle.message.specs.WorkingMessage.{messageOf}
 use Rattle.message.specs.declared.Message.{Message}
 use Rattle.leaves.proofs.Fits.{LocationsFit, locations-fit, sent-in}
-use Rattle.judgement.specs.Rules.{infoIn, eventIs, originOf, located, quietOf}
-use Rattle.judgement.specs.Judged.{bodyWith, lasting, bodyIn, alerted, judgedBy, judgedOf}
+use Rattle.judgement.specs.WorkingRules.{infoIn, eventIs, originOf, located, quietOf}
+use Rattle.judgement.specs.WorkingJudged.{bodyWith, lasting, bodyIn, alerted, judgedBy, judgedOf}
 use Rattle.judgement.specs.declared.Judged.{Judged}
 use Rattle.judgement.proofs.Answers.{alerted-holds, judged-holds}
 

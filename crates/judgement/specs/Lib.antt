@@ -1,2 +1,2 @@
-pub mod Rules
-pub mod Judged
+pub mod WorkingRules
+pub mod WorkingJudged

@@ -10,9 +10,9 @@ ghost use mathlib.Core.Path.{_≡_};
 ghost use Prim.Native.Nat.{_<_, _-_};
 ghost use Rattle.octets.specs.Bytes.{every, holds};
 ghost use Rattle.clock.specs.Time.{span};
-ghost use Rattle.message.specs.Judged.{isCancel};
-ghost use Rattle.judgement.specs.Rules.{noEvent, eventOf, originOf, located, secondsTo, unplaced, complete, quietOf};
-ghost use Rattle.judgement.specs.Judged.{without, bodyWith, alerted, judgedOf};
+ghost use Rattle.message.specs.WorkingJudged.{isCancel};
+ghost use Rattle.judgement.specs.WorkingRules.{noEvent, eventOf, originOf, located, secondsTo, unplaced, complete, quietOf};
+ghost use Rattle.judgement.specs.WorkingJudged.{without, bodyWith, alerted, judgedOf};
 
 // The event of a header, or that there is none.
 pub struct Event {

@@ -25,22 +25,24 @@ use Rattle.clock.specs.Time.{span, instantIn}
 use Rattle.clock.specs.declared.Time.{Time}
 use Rattle.clock.proofs.Times.{instant-low}
 use Rattle.parts.specs.Parts.{isLocation, isZero}
-use Rattle.faults.specs.Field.{onward, lowest}
+use Rattle.faults.specs.WorkingField.{onward, lowest}
 use Rattle.markup.specs.Tree.{Forest, One, one, none}
 use Rattle.markup.specs.Document.{docAt}
-use Rattle.values.specs.Value.{valueAt, sixDigits}
-use Rattle.reads.specs.Leaves.{soundOf, pairOk, noInfo, sentLeaf, referencesLeaf}
-use Rattle.reads.specs.Steps.{says, placed, locationOf, locationStep, audioOf, isAudio, audioStep}
+use Rattle.values.specs.Value.{valueAt}
+use Rattle.values.specs.WorkingSteps.{sixDigits}
+use Rattle.reads.specs.WorkingLeaves.{soundOf, pairOk, noInfo, sentLeaf, referencesLeaf}
+use Rattle.reads.specs.WorkingSteps.{says, placed, locationOf, locationStep, audioOf, isAudio, audioStep}
 use Rattle.reads.specs.declared.Leaf.{Leaf}
 use Rattle.reads.specs.declared.Locations.{Locations}
 use Rattle.reads.specs.declared.Audio.{Audio}
 use Rattle.reads.specs.declared.Info.{Info}
 use Rattle.reads.specs.declared.Alert.{Alert}
-use Rattle.gather.specs.Read.{Element, named, leafIn, location, area, resource, infoOf, fromEnglish, selected, alertOf}
+use Rattle.gather.specs.Read.{Element, named}
+use Rattle.gather.specs.WorkingRead.{leafIn, location, area, resource, infoOf, fromEnglish, selected, alertOf}
 use Rattle.fields.specs.declared.MsgType.{MsgType}
 use Rattle.message.specs.Root.{prefixOf, rootOk}
-use Rattle.message.specs.Judged.{onlyOf, timed, statusOf, msgTypeOf, scopeOf, isAckOrError, asksReferences, referenced, faultsWith, fieldOf, numberWith}
-use Rattle.message.specs.Message.{refusedAs, judged, passed, ofRoot, messageOf}
+use Rattle.message.specs.WorkingJudged.{onlyOf, timed, statusOf, msgTypeOf, scopeOf, isAckOrError, asksReferences, referenced, faultsWith, fieldOf, numberWith}
+use Rattle.message.specs.WorkingMessage.{refusedAs, judged, passed, ofRoot, messageOf}
 use Rattle.message.specs.declared.Message.{Message}
 
 -- ---- locations and audio that fit

@@ -14,17 +14,18 @@ use Rattle.octets.proofs.Tests.{either-way}
 use Prim.Native.String.{String}
 use Rattle.markup.specs.Tree.{Forest, nil, text, elem, One, one, none}
 use Rattle.markup.specs.Document.{docAt}
-use Rattle.reads.specs.Leaves.{blank, found, soundOf, pairOk, noInfo, fresh}
-use Rattle.reads.specs.Steps.{says, isAudio, eventStep, parameterStep, audioStep, english}
+use Rattle.reads.specs.WorkingLeaves.{blank, found, soundOf, pairOk, noInfo, fresh}
+use Rattle.reads.specs.WorkingSteps.{says, isAudio, eventStep, parameterStep, audioStep, english}
 use Rattle.reads.specs.declared.Leaf.{Leaf}
 use Rattle.reads.specs.declared.Events.{Events}
 use Rattle.reads.specs.declared.Parameters.{Parameters}
 use Rattle.reads.specs.declared.Audio.{Audio}
 use Rattle.reads.specs.declared.Info.{Info}
 use Rattle.reads.specs.declared.Alert.{Alert}
-use Rattle.gather.specs.Read.{Element, nameIn, keep, named, bare, placeIn, markedIf, added, leafIn, event, parameter, resource, infoOf, languageIn, fromEnglish, selected, alertOf}
+use Rattle.gather.specs.Read.{Element, nameIn, keep, named, bare}
+use Rattle.gather.specs.WorkingRead.{placeIn, markedIf, added, leafIn, event, parameter, resource, infoOf, languageIn, fromEnglish, selected, alertOf}
 use Rattle.message.specs.Root.{prefixOf, rootOk}
-use Rattle.message.specs.Message.{judged, passed, ofRoot, messageOf}
+use Rattle.message.specs.WorkingMessage.{judged, passed, ofRoot, messageOf}
 use Rattle.message.specs.declared.Message.{Message}
 use Rattle.leaves.proofs.Reals.{Real, AllReal, leaf-is}
 

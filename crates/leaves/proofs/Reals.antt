@@ -24,8 +24,8 @@ use Rattle.markup.specs.Document.{declarationAt, miscAt, led, leadAt, ended, ro
 use Rattle.markup.proofs.Goes.{OneGoes, HeldGoes, items-goes, elem-goes}
 use Rattle.values.specs.Value.{runs, trimmed, collapsed, valueAt}
 use Rattle.values.proofs.Steps.{value-past}
-use Rattle.gather.specs.Visit.{placeOf}
-use Rattle.gather.specs.Read.{placeIn}
+use Rattle.gather.specs.WorkingVisit.{placeOf}
+use Rattle.gather.specs.WorkingRead.{placeIn}
 use Rattle.leaves.specs.Leaf.{decoded, leafValue}
 use Rattle.leaves.proofs.Trees.{value-of-items}
 

@@ -19,7 +19,7 @@ use Rattle.octets.proofs.Tests.{either-way}
 use Rattle.records.specs.Record.{kind, key, notice, withdrawal, aired}
 use Rattle.records.proofs.Records.{withdrawal-inj, kind-notice, kind-withdrawal, kind-aired, key-notice}
 use Rattle.ledger.specs.Sorted.{In, Sorted, insert, insertAll}
-use Rattle.ledger.specs.Board.{carried, due, Due, Alert, records, Shaped, Carried, offer, offers, Taken, After, handOutOf, hands, Call, offered, handedOut, given, Once}
+use Rattle.ledger.specs.WorkingBoard.{carried, due, Due, Alert, records, Shaped, Carried, offer, offers, Taken, After, handOutOf, hands, Call, offered, handedOut, given, Once}
 use Rattle.ledger.proofs.Sorts.{in-insert, in-insertAll, insertAll-sorted, insert-length, sorted-ext, not-before-self, in-append, in-map}
 use Rattle.ledger.proofs.Dues.{carried-notice, in-due, due-sorted, due-aired}
 

@@ -18,7 +18,7 @@ use Rattle.octets.proofs.Tests.{each-of, every-of}
 use Rattle.records.specs.Record.{kind, key, notice, withdrawal, aired}
 use Rattle.records.proofs.Records.{aired-inj, kind-withdrawal, kind-aired, header-notice}
 use Rattle.ledger.specs.Sorted.{In, Sorted, insert}
-use Rattle.ledger.specs.Board.{carried, unwithdrawn, live, headers, due, Due}
+use Rattle.ledger.specs.WorkingBoard.{carried, unwithdrawn, live, headers, due, Due}
 use Rattle.ledger.proofs.Sorts.{in-insert, in-insertAll, insertAll-sorted, has-not}
 
 pub carried-notice : (k h : List ℕ) → length k ≡ 132 → length h ≡ 243 → carried (notice k h) ≡ h

@@ -19,8 +19,8 @@ use Rattle.octets.proofs.Sames.{same-is, same-refl}
 use Rattle.octets.proofs.Tests.{each-of, every-of}
 use Rattle.records.specs.Record.{aired}
 use Rattle.ledger.specs.Sorted.{In, Sorted, insert, insertAll}
-use Rattle.ledger.specs.Board.{carried, unwithdrawn, live, headers, ordered, due, carries, indexOf, countOf}
-use Rattle.ledger.specs.Scan.{after, firstOf, bestOf}
+use Rattle.ledger.specs.WorkingBoard.{carried, unwithdrawn, live, headers, ordered, due, carries, indexOf, countOf}
+use Rattle.ledger.specs.WorkingScan.{after, firstOf, bestOf}
 use Rattle.ledger.proofs.Sorts.{in-insertAll, insertAll-sorted, insertAll-append, insert-length, sorted-ext, not-before-self}
 use Rattle.ledger.proofs.Dues.{in-headers, live-is, unwithdrawn-is}
 

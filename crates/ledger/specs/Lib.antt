@@ -1,3 +1,3 @@
 pub mod Sorted
-pub mod Board
-pub mod Scan
+pub mod WorkingBoard
+pub mod WorkingScan

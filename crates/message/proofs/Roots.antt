@@ -21,15 +21,15 @@ use Rattle.tags.specs.declared.Open.{Open}
 use Rattle.tags.specs.declared.Open.the-variants.{Full, Empty, Shut}
 use Rattle.markup.specs.Tree.{Tag, Forest, nil, text, elem, One, one, none, Held, held, bad, sealed, closed, opened, elemAt, contentAt}
 use Rattle.markup.specs.Document.{miscAt, ended, rooted}
-use Rattle.reads.specs.Leaves.{fresh}
+use Rattle.reads.specs.WorkingLeaves.{fresh}
 use Rattle.reads.specs.Names.{inside}
 use Rattle.reads.specs.declared.State.{State}
-use Rattle.gather.specs.Visit.{touchIn, left, visit, gotOne}
-use Rattle.gather.specs.Read.{alertOf}
+use Rattle.gather.specs.WorkingVisit.{touchIn, left, visit, gotOne}
+use Rattle.gather.specs.WorkingRead.{alertOf}
 use Rattle.gather.specs.declared.Got.{Got}
 use Rattle.gather.proofs.Gathers.{gathers}
 use Rattle.message.specs.Root.{beforeColon, colonAt, prefixOf, xmlnsOf, rootWith, rootOk}
-use Rattle.message.specs.Message.{refusedAs, judged, passed, rootContext, ofRoot}
+use Rattle.message.specs.WorkingMessage.{refusedAs, judged, passed, rootContext, ofRoot}
 
 -- the pass over an accepted root gathers what is read in it
 root-gathers : (s p : List ℕ) (g : Tag) (kids : Forest) → visit s p (rootContext true) (fresh (length s)) (elem g kids nil) .alert ≡ alertOf s p kids

@@ -1,3 +1,3 @@
 pub mod Root
-pub mod Judged
-pub mod Message
+pub mod WorkingJudged
+pub mod WorkingMessage

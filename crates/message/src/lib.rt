@@ -13,13 +13,13 @@ ghost use mathlib.Core.Bool.{not};
 ghost use Prim.Native.Nat.{_+_, _≤_};
 ghost use lib.ListN.{length};
 ghost use Rattle.octets.specs.Bytes.{pick, every, holds};
-ghost use Rattle.fields.specs.Fields.{statuses, scopes};
-ghost use Rattle.faults.specs.Field.{lowest};
+ghost use Rattle.fields.specs.WorkingFields.{statuses, scopes};
+ghost use Rattle.faults.specs.WorkingField.{lowest};
 ghost use Rattle.markup.specs.Tree.{elemAt};
 ghost use Rattle.markup.specs.Document.{rooted, docAt};
 ghost use Rattle.message.specs.Root.{colonAt, rootWith};
-ghost use Rattle.message.specs.Judged.{onlyOf, identified, timed, valued, typed, isUnknown, infoOk, faultsWith, referenced, numberWith};
-ghost use Rattle.message.specs.Message.{refusedAs, judged, passed, rootContext, ofRoot, messageOf};
+ghost use Rattle.message.specs.WorkingJudged.{onlyOf, identified, timed, valued, typed, isUnknown, infoOk, faultsWith, referenced, numberWith};
+ghost use Rattle.message.specs.WorkingMessage.{refusedAs, judged, passed, rootContext, ofRoot, messageOf};
 
 // What a message says: its number and field; its msgType; the instant of sent; and what is read in its alert. After 4, 5 and 6 nothing is read.
 pub struct Message {

@@ -11,22 +11,24 @@ use lib.Dec.{eqb}
 use lib.ListN.{length, drop, replicate, length-replicate}
 use lib.Seq.{sets-eq}
 use Rattle.octets.specs.Bytes.{pick, every}
-use Rattle.judgement.specs.Judged.{judgedOf}
+use Rattle.judgement.specs.WorkingJudged.{judgedOf}
 use Rattle.judgement.proofs.Answers.{number-small, field-small}
 use Rattle.judgement.specs.declared.Judged.{Judged}
 use Rattle.records.specs.Record.{recordOk}
 use Rattle.records.proofs.Records.{record-long}
 use Rattle.ledger.specs.Sorted.{In}
-use Rattle.ledger.specs.Board.{records}
+use Rattle.ledger.specs.WorkingBoard.{records}
 use Rattle.ledger.proofs.Sorts.{every-in}
-use Rattle.slots.specs.Slots.{recs, flat}
+use Rattle.slots.specs.Slots.{recs}
+use Rattle.slots.specs.WorkingSlots.{flat}
 use Rattle.slots.proofs.Records.{recs-flat, flat-length}
-use Rattle.board.specs.Rules.{boardOk}
+use Rattle.board.specs.WorkingRules.{boardOk}
 use Rattle.board.specs.declared.Added.{Added}
-use Rattle.board.specs.Calls as board
+use Rattle.board.specs.WorkingCalls as board
 use Rattle.board.proofs.Answers.{offer-bad}
-use Rattle.offers.specs.Records.{alertBy, recordsOf}
-use Rattle.offers.specs.Offer.{Offering, refused, given, offerOf}
+use Rattle.offers.specs.WorkingRecords.{alertBy, recordsOf}
+use Rattle.offers.specs.Offer.{Offering}
+use Rattle.offers.specs.WorkingOffer.{refused, given, offerOf}
 use Rattle.offers.specs.declared.Offered.{Offered}
 use Rattle.offers.proofs.Taken.{records-ok, records-few}
 use Rattle.offers.proofs.Putting.{Put}

@@ -16,24 +16,26 @@ use Rattle.octets.proofs.Tests.{each-of, every-first, every-rest}
 use Rattle.octets.proofs.Runs.{sets-append}
 use Rattle.clock.specs.Time.{timeOf, instantIn}
 use Rattle.clock.specs.declared.Time.{Time}
-use Rattle.values.specs.Value.{valueAt, restAt, leadAt}
+use Rattle.values.specs.Value.{valueAt}
+use Rattle.values.specs.WorkingSteps.{restAt, leadAt}
 use Rattle.values.proofs.Steps.{value-start}
-use Rattle.fields.specs.References.{upTo, senderOf, identifierOf, groupOk, words, referencesOk}
-use Rattle.fields.specs.Words.{wordIn, nextWord, wordAt}
+use Rattle.fields.specs.References.{upTo, senderOf, identifierOf, words}
+use Rattle.fields.specs.WorkingFields.{groupOk, referencesOk}
+use Rattle.fields.specs.WorkingWords.{wordIn, nextWord, wordAt}
 use Rattle.fields.specs.declared.Word.{Word}
 use Rattle.fields.proofs.Identities.{identity-short}
 use Rattle.fields.proofs.Buffers.{put-long, taken-back}
 use Rattle.fields.proofs.Groups.{groupTests, group-long, no-first, no-second, Parted, parted}
 use Rattle.fields.proofs.Words.{value-words, len-is, next-is, more-is}
-use Rattle.message.specs.Judged.{asksReferences}
+use Rattle.message.specs.WorkingJudged.{asksReferences}
 use Rattle.judgement.specs.declared.Judged.{Judged}
 use Rattle.records.specs.Record.{pad, be4, keyOf, notice, withdrawal}
 use Rattle.records.proofs.ZeroFill.{pad-long, pad-whole}
 use Rattle.records.proofs.Making.{laid}
 use Rattle.records.proofs.Records.{record-long}
-use Rattle.ledger.specs.Board.{records}
-use Rattle.slots.specs.Slots.{flat}
-use Rattle.offers.specs.Records.{ownReferences, ownIn, headerIn, namedBy, alertBy}
+use Rattle.ledger.specs.WorkingBoard.{records}
+use Rattle.slots.specs.WorkingSlots.{flat}
+use Rattle.offers.specs.WorkingRecords.{ownReferences, ownIn, headerIn, namedBy, alertBy}
 use Rattle.offers.proofs.Taken.{named-good, references-are, map-long, Ready}
 
 -- ---- the notice

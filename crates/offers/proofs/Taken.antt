@@ -24,21 +24,22 @@ use Rattle.header.specs.declared.BodyRead.{BodyRead}
 use Rattle.header.proofs.Reading.{body-zero, body-long}
 use Rattle.header.proofs.WriteThenRead.{body-back, read-written-body}
 use Rattle.fields.specs.Fields.{identityOk}
-use Rattle.fields.specs.References.{senderOf, identifierOf, sentOf, groupOk, words, referencesOk}
+use Rattle.fields.specs.References.{senderOf, identifierOf, sentOf, words}
+use Rattle.fields.specs.WorkingFields.{groupOk, referencesOk}
 use Rattle.fields.specs.declared.MsgType.{MsgType}
 use Rattle.fields.proofs.Identities.{identity-short}
 use Rattle.fields.proofs.Groups.{groupTests}
-use Rattle.faults.specs.Field.{onward, lowest}
+use Rattle.faults.specs.WorkingField.{onward, lowest}
 use Rattle.markup.specs.Tree.{one}
 use Rattle.reads.specs.declared.Alert.{Alert}
 use Rattle.reads.specs.declared.Leaf.{Leaf}
-use Rattle.gather.specs.Read.{alertOf}
-use Rattle.reads.specs.Leaves.{identifierLeaf, senderLeaf, sentLeaf, referencesLeaf}
-use Rattle.message.specs.Judged.{onlyOf, identified, timed, statusOf, msgTypeOf, scopeOf, referenced, isAckOrError, asksReferences, faultsWith, fieldOf, numberWith, numberOf}
-use Rattle.message.specs.Message.{judged, messageOf}
+use Rattle.gather.specs.WorkingRead.{alertOf}
+use Rattle.reads.specs.WorkingLeaves.{identifierLeaf, senderLeaf, sentLeaf, referencesLeaf}
+use Rattle.message.specs.WorkingJudged.{onlyOf, identified, timed, statusOf, msgTypeOf, scopeOf, referenced, isAckOrError, asksReferences, faultsWith, fieldOf, numberWith, numberOf}
+use Rattle.message.specs.WorkingMessage.{judged, messageOf}
 use Rattle.message.specs.declared.Message.{Message}
 use Rattle.leaves.proofs.Fits.{message-holds, sent-in}
-use Rattle.judgement.specs.Judged.{bodyWith, judgedBy, judgedOf}
+use Rattle.judgement.specs.WorkingJudged.{bodyWith, judgedBy, judgedOf}
 use Rattle.judgement.specs.declared.Judged.{Judged}
 use Rattle.judgement.proofs.Bodies.{alerting, alert-body, body-ok, message-kept}
 use Rattle.records.specs.Record.{recordOk, notice, withdrawal}
@@ -46,8 +47,8 @@ use Rattle.records.proofs.ZeroFill.{pad-long}
 use Rattle.records.proofs.Stamps.{stamp-read}
 use Rattle.records.proofs.Records.{key-of-long, notice-ok, withdrawal-ok}
 use Rattle.ledger.specs.Sorted.{In}
-use Rattle.ledger.specs.Board.{records, Shaped}
-use Rattle.offers.specs.Records.{ownIdentifier, ownReferences, ownSender, ownIn, headerIn, namedBy, alertBy, recordsOf}
+use Rattle.ledger.specs.WorkingBoard.{records, Shaped}
+use Rattle.offers.specs.WorkingRecords.{ownIdentifier, ownReferences, ownSender, ownIn, headerIn, namedBy, alertBy, recordsOf}
 
 -- ---- its values
 

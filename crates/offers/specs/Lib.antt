@@ -1,2 +1,3 @@
-pub mod Records
+pub mod WorkingRecords
 pub mod Offer
+pub mod WorkingOffer

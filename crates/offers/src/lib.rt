@@ -10,15 +10,16 @@ ghost use Prim.Native.Nat.{_+_, _*_, _≤_};
 ghost use lib.ListN.{length};
 ghost use lib.Seq.{sets};
 ghost use Rattle.values.specs.Value.{valueAt};
-ghost use Rattle.fields.specs.References.{groupOk, words, referencesOk};
-ghost use Rattle.fields.specs.Words.{wordIn, wordAt};
-ghost use Rattle.message.specs.Judged.{asksReferences};
-ghost use Rattle.judgement.specs.Judged.{judgedOf};
+ghost use Rattle.fields.specs.WorkingFields.{groupOk, referencesOk};
+ghost use Rattle.fields.specs.References.{words};
+ghost use Rattle.fields.specs.WorkingWords.{wordIn, wordAt};
+ghost use Rattle.message.specs.WorkingJudged.{asksReferences};
+ghost use Rattle.judgement.specs.WorkingJudged.{judgedOf};
 ghost use Rattle.records.specs.Record.{notice, withdrawal};
-ghost use Rattle.ledger.specs.Board.{records};
-ghost use Rattle.slots.specs.Slots.{flat};
-ghost use Rattle.offers.specs.Records.{ownIn, headerIn, namedBy, alertBy};
-ghost use Rattle.offers.specs.Offer.{offerOf};
+ghost use Rattle.ledger.specs.WorkingBoard.{records};
+ghost use Rattle.slots.specs.WorkingSlots.{flat};
+ghost use Rattle.offers.specs.WorkingRecords.{ownIn, headerIn, namedBy, alertBy};
+ghost use Rattle.offers.specs.WorkingOffer.{offerOf};
 
 // What an offer answers: the number; the field beside 7; and how many records were added.
 pub struct Offered {

@@ -15,7 +15,8 @@ use Rattle.octets.specs.Digits.{allDigits, value, digits}
 use Rattle.parts.proofs.Asking.{asked-taken}
 use Rattle.parts.proofs.Has.{has, station-long}
 use Rattle.parts.proofs.Padded.{padded-is}
-use Rattle.parts.specs.Asked.{padded, sixesBytes, sixes, sixesTests, sixesOk, askedBody, askedStation, askedParts}
+use Rattle.parts.specs.Parts.{padded}
+use Rattle.parts.specs.WorkingAsked.{sixesBytes, sixes, sixesTests, sixesOk, askedBody, askedStation, askedParts}
 use Rattle.parts.specs.Originator.{numberOf, numbered}
 use Rattle.parts.specs.Parts.{isLocation, bodyOk, stationOk, noStation}
 use Rattle.parts.specs.declared.Body.{Body}

@@ -11,7 +11,8 @@ use Rattle.octets.proofs.Parts.{cut}
 use Rattle.octets.proofs.Tests.{every-of, one-fails, every-none}
 use Rattle.octets.specs.Bytes.{pick, every, holds, part, isDigit}
 use Rattle.octets.specs.Digits.{allDigits, value}
-use Rattle.parts.specs.Asked.{padded, sixes, sixesTests, sixesOk, sixesRead, askedTests, askedOk, askedBody}
+use Rattle.parts.specs.Parts.{padded}
+use Rattle.parts.specs.WorkingAsked.{sixes, sixesTests, sixesOk, sixesRead, askedTests, askedOk, askedBody}
 use Rattle.parts.specs.Originator.{isKnown, known, numbered}
 use Rattle.parts.specs.Parts.{noLocations, noBody}
 use Rattle.parts.specs.declared.Body.{Body}

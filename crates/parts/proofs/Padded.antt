@@ -10,7 +10,7 @@ use borrow.Author.Tests.{eqb-true}
 use Rattle.octets.proofs.Parts.{drop-zeros}
 use Rattle.octets.proofs.Tests.{every-first, every-rest, every-right}
 use Rattle.octets.specs.Bytes.{every}
-use Rattle.parts.specs.Asked.{padded}
+use Rattle.parts.specs.Parts.{padded}
 use Rattle.parts.specs.Parts.{isZero, noLocations}
 
 -- ---- locations with zeros behind them

@@ -1,3 +1,3 @@
 pub mod Originator
 pub mod Parts
-pub mod Asked
+pub mod WorkingAsked

@@ -7,6 +7,7 @@ use lib.Dec.{leb, ltb, eqb}
 use Rattle.octets.specs.Bytes.{every, holds, between, isCapital}
 use Rattle.parts.specs.declared.Originator.the-variants.{Pep}
 use Rattle.parts.specs.declared.Body.{Body}
+use lib.Seq.{sets}
 
 -- EEE: three letters A to Z, known or not
 abbrev pub eventTests : List ℕ → List Bool
@@ -68,3 +69,7 @@ noBody = record { originator = Pep; event = replicate 3 0; count = 0; locations 
 
 abbrev pub noStation : List ℕ
 noStation = replicate 8 0
+
+-- the locations with zeros behind them
+abbrev pub padded : List ℕ → List ℕ
+padded ps = sets noLocations 0 ps

@@ -6,7 +6,7 @@ ghost use lib.ListN.{length, take, drop};
 ghost use Rattle.octets.specs.Bytes.{part, every};
 ghost use Rattle.parts.specs.Originator.{originatorOf, numberOf, numbered};
 ghost use Rattle.parts.specs.Parts.{eventOk, isLocation, isZero, locationsOk, isPeriod, timesOk, bodyOk, isStation, stationOk, noBody};
-ghost use Rattle.parts.specs.Asked.{sixesRead, askedBody, askedStation, askedParts};
+ghost use Rattle.parts.specs.WorkingAsked.{sixesRead, askedBody, askedStation, askedParts};
 
 pub enum Originator {
     Pep,

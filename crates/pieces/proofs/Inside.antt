@@ -12,7 +12,8 @@ use Rattle.octets.specs.Bytes.{byteAt, stands, every, between, oneOf, isDigit, 
 use Rattle.octets.specs.Text.{bytes}
 use Rattle.octets.proofs.Scans.{inside}
 use Rattle.octets.proofs.Tests.{and-left, and-right, below-between}
-use Rattle.pieces.specs.Classes.{mayStand, isNamed, isPlain, isRun, isQuiet, figureOf, isFigure}
+use Rattle.pieces.specs.Classes.{mayStand, isNamed, isPlain, figureOf, isFigure}
+use Rattle.pieces.specs.WorkingClasses.{isRun, isQuiet}
 use Rattle.pieces.specs.Pieces.{inNote, inText}
 use Rattle.pieces.proofs.Words.{begins-not}
 

@@ -21,14 +21,6 @@ isNamed b = isLetter b || isDigit b || oneOf (95 ∷ 45 ∷ 46 ∷ []) b
 unfoldable pub isPlain : ℕ → Bool
 isPlain b = mayStand b && not (oneOf (60 ∷ 38 ∷ []) b)
 
--- such a byte that begins no `]]>`
-unfoldable pub isRun : ℕ → Bool
-isRun b = isPlain b && not (eqb b 93)
-
--- a byte of a comment that begins no `--`
-unfoldable pub isQuiet : ℕ → Bool
-isQuiet b = mayStand b && not (eqb b 45)
-
 -- what a decimal or hexadecimal digit counts, in either letter case; 16 where it is none
 unfoldable pub figureOf : ℕ → ℕ
 figureOf b = pick (isDigit b) (b - 48) (pick (between 65 70 b) (b - 55) (pick (between 97 102 b) (b - 87) 16))

@@ -4,7 +4,8 @@ ghost use Prim.Native.Nat.{_+_, _≤_};
 ghost use lib.ListN.{length};
 ghost use Rattle.octets.specs.Bytes.{part, isSpace};
 ghost use Rattle.octets.specs.Scan.{scan, past};
-ghost use Rattle.pieces.specs.Classes.{mayStand, isStart, isNamed, isRun, isQuiet, figureOf, isFigure};
+ghost use Rattle.pieces.specs.Classes.{mayStand, isStart, isNamed, figureOf, isFigure};
+ghost use Rattle.pieces.specs.WorkingClasses.{isRun, isQuiet};
 ghost use Rattle.pieces.specs.Pieces.{plainAt, short, nameAt, inNote, noteAt, wordedAt, numeralFrom, numberAt, refAt, charAt, inText, tagAt, pieceAt};
 
 // Where something ends, or that it does not stand there.

@@ -13,7 +13,7 @@ use Rattle.pieces.proofs.Goes.{EndGoes}
 use Rattle.markup.specs.Tree.{One, one, none, elemAt}
 use Rattle.markup.specs.Document.{declarationAt, miscAt, led, leadAt, rooted, rootAt, docAt}
 use Rattle.markup.proofs.Goes.{OneGoes, elem-goes, decl-goes, misc-goes}
-use Rattle.reader.specs.Position.{reached}
+use Rattle.reader.specs.WorkingPosition.{reached}
 
 pub lead-forward : (s : List ℕ) (i : ℕ) → i ≤ length s → (i ≤ reached s (leadAt s i)) × (reached s (leadAt s i) ≤ length s)
 unfolding leadAt led reached

@@ -1,1 +1,1 @@
-pub mod Position
+pub mod WorkingPosition

@@ -2,7 +2,7 @@
 use pieces::End;
 ghost use mathlib.Core.Path.{_≡_};
 ghost use Rattle.markup.specs.Document.{leadAt};
-ghost use Rattle.reader.specs.Position.{reached};
+ghost use Rattle.reader.specs.WorkingPosition.{reached};
 
 pub struct Reader<'a> {
     pub src: &'a [u8],

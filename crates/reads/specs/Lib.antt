@@ -1,3 +1,3 @@
-pub mod Leaves
+pub mod WorkingLeaves
 pub mod Names
-pub mod Steps
+pub mod WorkingSteps

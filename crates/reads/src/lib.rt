@@ -4,9 +4,9 @@ ghost use mathlib.Core.Path.{_≡_};
 ghost use mathlib.Core.Bool.{_||_};
 ghost use Prim.Native.Nat.{_≤_};
 ghost use lib.ListN.{length};
-ghost use Rattle.reads.specs.Leaves.{blank, marked, found, soundOf, pairOk, noInfo, fresh};
+ghost use Rattle.reads.specs.WorkingLeaves.{blank, marked, found, soundOf, pairOk, noInfo, fresh};
 ghost use Rattle.reads.specs.Names.{localAt, alertContext, infoContext, laterContext, pairContext, resourceContext, areaContext, contextOf};
-ghost use Rattle.reads.specs.Steps.{eventStep, parameterStep, placed, locationStep, audioOf, audioStep, english, isNothing, infoStep, laterStep};
+ghost use Rattle.reads.specs.WorkingSteps.{eventStep, parameterStep, placed, locationStep, audioOf, audioStep, english, isNothing, infoStep, laterStep};
 
 // A leaf: where the value of the first begins, how often it stands (0, 1, and 2 for more), and whether one of them holds an element.
 pub struct Leaf {

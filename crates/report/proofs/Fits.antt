@@ -10,7 +10,8 @@ use lib.ListN.{length}
 use Rattle.octets.specs.Text.{bytes}
 use Rattle.octets.proofs.Tests.{either-way}
 use Rattle.convert.proofs.Answers.{convert-small}
-use Rattle.convert.specs.Convert.{Given, convertOf, answerOf}
+use Rattle.convert.specs.Convert.{Given, answerOf}
+use Rattle.convert.specs.WorkingConvert.{convertOf}
 use Rattle.report.specs.Program.{benchOf, printed, programOf}
 use Rattle.report.proofs.Lengths.{AtMost, lines-le}
 

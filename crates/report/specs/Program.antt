@@ -4,7 +4,8 @@ use mathlib.Core.List.{List, []}
 use lib.Dec.{ltb}
 use Rattle.octets.specs.Bytes.{pick}
 use Rattle.octets.specs.Text.{bytes}
-use Rattle.convert.specs.Convert.{Outcome, convertOf}
+use Rattle.convert.specs.Convert.{Outcome}
+use Rattle.convert.specs.WorkingConvert.{convertOf}
 use Rattle.report.specs.Lines.{linesOf}
 
 -- the program uses station `BENCH/01`, and lends what a conversion asks for: header 252, text 1,800, uri 1,024

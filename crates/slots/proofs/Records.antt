@@ -21,7 +21,8 @@ use Rattle.ledger.specs.Sorted.{In, has, Sorted, insert, insertAll}
 use Rattle.ledger.proofs.Sorts.{in-insertAll, insertAll-sorted, insert-held, insert-new, insertAll-grows, insertAll-append, has-in}
 use Rattle.slots.specs.declared.Place.{Place}
 use Rattle.slots.specs.declared.Place.the-variants.{New, Held}
-use Rattle.slots.specs.Slots.{rec, recs, flat, later, placeOf}
+use Rattle.slots.specs.WorkingSlots.{rec, flat, later, placeOf}
+use Rattle.slots.specs.Slots.{recs}
 
 -- ---- the records of bytes
 

@@ -7,7 +7,8 @@ ghost use Prim.Native.Nat.{_+_, _*_, _≤_};
 ghost use lib.ListN.{length, take, drop};
 ghost use lib.Seq.{slice};
 ghost use Rattle.ledger.specs.Sorted.{has, Sorted, insert, insertAll};
-ghost use Rattle.slots.specs.Slots.{rec, recs, flat, placeOf};
+ghost use Rattle.slots.specs.WorkingSlots.{rec, flat, placeOf};
+ghost use Rattle.slots.specs.Slots.{recs};
 
 // Where a record goes: a new one to an index, or it is held there.
 pub enum Place {

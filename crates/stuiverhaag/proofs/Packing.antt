@@ -9,7 +9,8 @@ use lib.Dec.{eqb}
 use lib.ListN.{length}
 use Rattle.octets.specs.Bytes.{pick}
 use Rattle.convert.proofs.Answers.{Small, convert-small}
-use Rattle.convert.specs.Convert.{convertOf, answerOf}
+use Rattle.convert.specs.WorkingConvert.{convertOf}
+use Rattle.convert.specs.Convert.{answerOf}
 use Rattle.convert.specs.declared.Converted.{Converted}
 use Rattle.header.proofs.ReadThenWrite.{read-small}
 use Rattle.header.proofs.WriteThenRead.{write-small}
@@ -21,15 +22,16 @@ use Rattle.parts.specs.Originator.{numberOf}
 use Rattle.parts.specs.declared.Originator.{Originator}
 use Rattle.parts.specs.declared.Originator.the-variants.{Pep, Eas, Wxr, Civ}
 use Rattle.parts.specs.declared.Parts.{Parts}
-use Rattle.ledger.specs.Board.{live, carries, indexOf}
-use Rattle.board.specs.Rules.{boardOf, boardOk}
-use Rattle.board.specs.Calls as board
+use Rattle.ledger.specs.WorkingBoard.{live, carries, indexOf}
+use Rattle.board.specs.Rules.{boardOf}
+use Rattle.board.specs.WorkingRules.{boardOk}
+use Rattle.board.specs.WorkingCalls as board
 use Rattle.board.specs.declared.Handed.{Handed}
 use Rattle.board.proofs.Boards.{board-within, kept}
 use Rattle.board.proofs.Answers.{offer-bad, hand-bad}
 use Rattle.board.proofs.Keeps.{Offer, offer-is, Hand, hand-is}
-use Rattle.offers.specs.Records.{recordsOf}
-use Rattle.offers.specs.Offer.{refused, given, offerOf}
+use Rattle.offers.specs.WorkingRecords.{recordsOf}
+use Rattle.offers.specs.WorkingOffer.{refused, given, offerOf}
 use Rattle.offers.specs.declared.Offered.{Offered}
 use Rattle.offers.proofs.Offering.{judged-small}
 

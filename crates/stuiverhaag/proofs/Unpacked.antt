@@ -17,11 +17,12 @@ use Rattle.header.specs.Header.{partsOf, refusal, headerForm, readOf, writeNumb
 use Rattle.header.specs.declared.Read.{Read}
 use Rattle.header.specs.declared.Written.{Written}
 use Rattle.convert.proofs.Answers.{convert-refused}
-use Rattle.convert.specs.Convert.{Outcome, convertOf, answerOf}
+use Rattle.convert.specs.Convert.{Outcome, answerOf}
+use Rattle.convert.specs.WorkingConvert.{convertOf}
 use Rattle.convert.specs.declared.Converted.{Converted}
-use Rattle.board.specs.Calls.{handOf}
+use Rattle.board.specs.WorkingCalls.{handOf}
 use Rattle.board.specs.declared.Handed.{Handed}
-use Rattle.offers.specs.Offer.{offerOf}
+use Rattle.offers.specs.WorkingOffer.{offerOf}
 use Rattle.offers.specs.declared.Offered.{Offered}
 use Rattle.stuiverhaag.proofs.Packing.{convert-narrow, read-narrow, offer-narrow, hand-narrow}
 use Rattle.stuiverhaag.specs.Packed.{bit8, bit16, bit24, bit28, bit32, bit48, bit55, packedConverted, NarrowConverted, NarrowBody, packedRead, packedWritten, packedOffered, packedHanded}

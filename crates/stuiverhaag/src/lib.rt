@@ -6,11 +6,12 @@ ghost use Prim.Native.Nat.{_≤_};
 ghost use lib.ListN.{length};
 ghost use lib.Seq.{sets};
 ghost use Rattle.octets.specs.Bytes.{pick};
-ghost use Rattle.parts.specs.Asked.{askedParts};
+ghost use Rattle.parts.specs.WorkingAsked.{askedParts};
 ghost use Rattle.header.specs.Header.{readOf, writeOf, writeBytes};
-ghost use Rattle.convert.specs.Convert.{convertOf, answerOf};
-ghost use Rattle.board.specs.Calls.{handOf};
-ghost use Rattle.offers.specs.Offer.{offerOf};
+ghost use Rattle.convert.specs.WorkingConvert.{convertOf};
+ghost use Rattle.convert.specs.Convert.{answerOf};
+ghost use Rattle.board.specs.WorkingCalls.{handOf};
+ghost use Rattle.offers.specs.WorkingOffer.{offerOf};
 ghost use Rattle.stuiverhaag.specs.Packed.{bit28, packedConverted, NarrowConverted, packedBody, NarrowBody, packedRead, packedWritten, packedOffered, packedHanded};
 
 // What a bit counts.

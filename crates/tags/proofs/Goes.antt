@@ -25,7 +25,7 @@ use Rattle.pieces.proofs.Goes.{Goes, PastGoes, EndGoes, RefGoes, space-ge, name
 use Rattle.pieces.proofs.Walks.{StepGoes, walk-goes}
 use Rattle.tags.specs.Attributes.{over, bitAt, valueAt, valued, equalled, attrAt, sought, seekAt, attrNamed}
 use Rattle.tags.specs.Tags.{fresh, taken, takeAt, shutAt, tailAt, tailed, openAt, closeAt}
-use Rattle.tags.specs.Seen.{way, apart, looked, lookAt}
+use Rattle.tags.specs.WorkingTree.{way, apart, looked, lookAt}
 use Rattle.tags.specs.declared.Attr.{Attr}
 use Rattle.tags.specs.declared.Attr.the-variants.{Of, Last, None}
 use Rattle.tags.specs.declared.Open.{Open}

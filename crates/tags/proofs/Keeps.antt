@@ -20,7 +20,7 @@ use Rattle.pieces.specs.declared.Step.the-variants.{Go, Stop, Stuck}
 use Rattle.pieces.proofs.Walks.{Walking, StepGoes, walk-starts, walk-moves, walk-stops, walk-stuck}
 use Rattle.tags.specs.Attributes.{attrAt, sought, seekAt, attrNamed}
 use Rattle.tags.specs.Tags.{fresh, taken, takeAt}
-use Rattle.tags.specs.Seen.{nodes, cells, nameOf, way, Tree, hung, Grown, apart, looked, lookAt}
+use Rattle.tags.specs.WorkingTree.{nodes, cells, nameOf, way, Tree, hung, Grown, apart, looked, lookAt}
 use Rattle.tags.specs.declared.Attr.{Attr}
 use Rattle.tags.specs.declared.Attr.the-variants.{Of, Last, None}
 use Rattle.tags.proofs.Goes.{attr-read, seek-goes, take-goes}

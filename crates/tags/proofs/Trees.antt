@@ -18,7 +18,7 @@ use Rattle.octets.proofs.Sames.{same-is, same-refl}
 use Rattle.octets.proofs.Tests.{never}
 use Rattle.pieces.specs.declared.End.{End}
 use Rattle.pieces.specs.declared.End.the-variants.{At, No}
-use Rattle.tags.specs.Seen.{nodes, cells, turnOf, cellOf, nameOf, onward, wayFrom, way, Tree, hung}
+use Rattle.tags.specs.WorkingTree.{nodes, cells, turnOf, cellOf, nameOf, onward, wayFrom, way, Tree, hung}
 
 pub turn-small : (w : List ℕ) (d : ℕ) → turnOf w d < 2
 unfolding turnOf

@@ -1,3 +1,3 @@
 pub mod Attributes
 pub mod Tags
-pub mod Seen
+pub mod WorkingTree

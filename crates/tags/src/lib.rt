@@ -10,7 +10,7 @@ ghost use Rattle.octets.specs.Bytes.{part, same};
 ghost use Rattle.pieces.specs.Walk.{walkAt};
 ghost use Rattle.tags.specs.Attributes.{bitAt, valueAt, decodedAt, equalled, attrAt, seekAt, attrNamed};
 ghost use Rattle.tags.specs.Tags.{takeAt, tailAt, openAt, closeAt};
-ghost use Rattle.tags.specs.Seen.{nodes, cells, turnOf, way, Tree, Added, lookAt};
+ghost use Rattle.tags.specs.WorkingTree.{nodes, cells, turnOf, way, Tree, Added, lookAt};
 
 // An attribute: where its name begins and ends, where its value begins, and where that ends. Or where the attributes end.
 pub enum Attr {

@@ -11,9 +11,10 @@ use Rattle.octets.specs.Text.{bytes}
 use Rattle.octets.proofs.Tests.{either-way}
 use Rattle.markup.specs.Tree.{Forest}
 use Rattle.values.specs.Value.{small}
-use Rattle.reads.specs.Steps.{english, isNothing}
-use Rattle.gather.specs.Read.{Element, named, infoOf, languageIn, fromEnglish, selection, selected, languagesOk, alertOf}
-use Rattle.message.specs.Judged.{infoOk}
+use Rattle.reads.specs.WorkingSteps.{english, isNothing}
+use Rattle.gather.specs.Read.{Element, named}
+use Rattle.gather.specs.WorkingRead.{infoOf, languageIn, fromEnglish, selection, selected, languagesOk, alertOf}
+use Rattle.message.specs.WorkingJudged.{infoOk}
 use Rattle.leaves.proofs.Reals.{AllReal}
 use Rattle.leaves.proofs.Places.{Reals, named-real}
 use Rattle.told.specs.Values.{isNone, passing, sound, infoSound, isEnglish, heldBy, selectedIn, languagesSound}

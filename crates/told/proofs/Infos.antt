@@ -18,13 +18,14 @@ use Rattle.octets.proofs.Sames.{same-is}
 use Rattle.markup.specs.Tree.{Forest}
 use Rattle.values.specs.Value.{valueAt}
 use Rattle.values.proofs.Steps.{value-past}
-use Rattle.reads.specs.Leaves.{blank, found, soundOf, noInfo}
-use Rattle.reads.specs.Steps.{says, eventStep, parameterStep, audioOf, isAudio, audioStep}
+use Rattle.reads.specs.WorkingLeaves.{blank, found, soundOf, noInfo}
+use Rattle.reads.specs.WorkingSteps.{says, eventStep, parameterStep, audioOf, isAudio, audioStep}
 use Rattle.reads.specs.declared.Leaf.{Leaf}
 use Rattle.reads.specs.declared.Events.{Events}
 use Rattle.reads.specs.declared.Parameters.{Parameters}
 use Rattle.reads.specs.declared.Audio.{Audio}
-use Rattle.gather.specs.Read.{Element, named, leafIn, event, parameter, resource, infoOf}
+use Rattle.gather.specs.Read.{Element, named}
+use Rattle.gather.specs.WorkingRead.{leafIn, event, parameter, resource, infoOf}
 use Rattle.leaves.proofs.Reals.{AllReal}
 use Rattle.leaves.proofs.Places.{named-real}
 use Rattle.told.specs.Values.{isNone, passing, firstOf, is, Pair, pairOf, eventCodes, parameters, valuesNamed, pairSound, resourceSound}

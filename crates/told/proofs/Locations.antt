@@ -16,14 +16,16 @@ use Rattle.octets.specs.Digits.{value, allDigits, numOf}
 use Rattle.octets.specs.declared.Num.{Num}
 use Rattle.octets.specs.declared.Num.the-variants.{Value, Bad}
 use Rattle.octets.proofs.Tests.{either-way}
-use Rattle.parts.specs.Asked.{padded}
+use Rattle.parts.specs.Parts.{padded}
 use Rattle.parts.proofs.Padded.{padded-is}
 use Rattle.markup.specs.Tree.{Forest}
-use Rattle.values.specs.Value.{valueAt, sixDigits}
-use Rattle.reads.specs.Leaves.{noInfo}
-use Rattle.reads.specs.Steps.{placed, locationOf, locationStep}
+use Rattle.values.specs.Value.{valueAt}
+use Rattle.values.specs.WorkingSteps.{sixDigits}
+use Rattle.reads.specs.WorkingLeaves.{noInfo}
+use Rattle.reads.specs.WorkingSteps.{placed, locationOf, locationStep}
 use Rattle.reads.specs.declared.Locations.{Locations}
-use Rattle.gather.specs.Read.{Element, named, leafIn, location, infoOf}
+use Rattle.gather.specs.Read.{Element, named}
+use Rattle.gather.specs.WorkingRead.{leafIn, location, infoOf}
 use Rattle.leaves.proofs.Reals.{AllReal}
 use Rattle.leaves.proofs.Places.{Reals, named-real}
 use Rattle.leaves.proofs.Fits.{LocationsFit, location-fits, no-locations-fit, info-locations-fit}

@@ -14,17 +14,18 @@ use Rattle.octets.specs.Bytes.{pick, every, same}
 use Rattle.octets.specs.Text.{bytes}
 use Rattle.markup.specs.Tree.{Forest}
 use Rattle.values.specs.Value.{valueAt}
-use Rattle.reads.specs.Leaves.{blank, noInfo}
+use Rattle.reads.specs.WorkingLeaves.{blank, noInfo}
 use Rattle.reads.specs.Names.{infoInside, among, inside}
-use Rattle.reads.specs.Steps.{english}
+use Rattle.reads.specs.WorkingSteps.{english}
 use Rattle.reads.specs.declared.Leaf as reads
 use Rattle.reads.specs.declared.Locations.{Locations}
 use Rattle.reads.specs.declared.Kept.{Kept}
 use Rattle.reads.specs.declared.Kept.the-variants.{Nothing, First, Selected}
 use Rattle.reads.specs.declared.Context.{Context}
 use Rattle.reads.specs.declared.Context.the-variants as ctx
-use Rattle.gather.specs.Read.{Element, named, bare, placeIn, markedIf, added, leafIn, event, parameter, location, resource, area, infoOf}
-use Rattle.gather.specs.Read.{languageIn, fromEnglish, selection, selected, languagesOk, alertOf}
+use Rattle.gather.specs.Read.{Element, named, bare}
+use Rattle.gather.specs.WorkingRead.{placeIn, markedIf, added, leafIn, event, parameter, location, resource, area, infoOf}
+use Rattle.gather.specs.WorkingRead.{languageIn, fromEnglish, selection, selected, languagesOk, alertOf}
 use Rattle.leaves.proofs.Reals.{Real, AllReal}
 use Rattle.leaves.proofs.Places.{Reals, named-real}
 use Rattle.told.proofs.Alerts.{english-is}

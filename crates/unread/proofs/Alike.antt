@@ -13,8 +13,8 @@ use Rattle.octets.specs.Bytes.{pick, same}
 use Rattle.octets.specs.Text.{bytes}
 use Rattle.values.specs.Value.{valueAt}
 use Rattle.values.proofs.Steps.{value-past}
-use Rattle.reads.specs.Leaves.{blank, marked, found, soundOf, pairOk, noInfo, fresh}
-use Rattle.reads.specs.Steps.{says, eventStep, parameterStep, locationStep, audioOf, isAudio, audioStep, english}
+use Rattle.reads.specs.WorkingLeaves.{blank, marked, found, soundOf, pairOk, noInfo, fresh}
+use Rattle.reads.specs.WorkingSteps.{says, eventStep, parameterStep, locationStep, audioOf, isAudio, audioStep, english}
 use Rattle.reads.specs.declared.Leaf.{Leaf}
 use Rattle.reads.specs.declared.Events.{Events}
 use Rattle.reads.specs.declared.Parameters.{Parameters}

@@ -7,11 +7,12 @@ use mathlib.Core.Path.{_≡_, ap}
 use mathlib.Core.List.{List, _∷_}
 use Rattle.octets.specs.Text.{bytes}
 use Rattle.reads.specs.declared.Audio.{Audio}
-use Rattle.judgement.specs.Judged.{judgedOf}
+use Rattle.judgement.specs.WorkingJudged.{judgedOf}
 use Rattle.judgement.specs.declared.Judged.{Judged}
-use Rattle.convert.specs.Convert.{textIn, uriIn, alertGiven, outcomeOf, convertOf}
-use Rattle.offers.specs.Records.{ownIn, headerIn, alertBy, recordsOf}
-use Rattle.offers.specs.Offer.{Offering, offerOf}
+use Rattle.convert.specs.WorkingConvert.{textIn, uriIn, alertGiven, outcomeOf, convertOf}
+use Rattle.offers.specs.WorkingRecords.{ownIn, headerIn, alertBy, recordsOf}
+use Rattle.offers.specs.Offer.{Offering}
+use Rattle.offers.specs.WorkingOffer.{offerOf}
 use Rattle.report.specs.Program.{programOf}
 use Rattle.demands.specs.Calls.{Calls, library}
 use Rattle.demands.specs.Runs.{Call, offers, handedOut}

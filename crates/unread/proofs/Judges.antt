@@ -7,10 +7,10 @@ use mathlib.Core.List.{List}
 use lib.Dec.{eqb}
 use Rattle.parts.specs.Originator.{isKnown}
 use Rattle.reads.specs.declared.Leaf.{Leaf}
-use Rattle.message.specs.Message.{messageOf}
+use Rattle.message.specs.WorkingMessage.{messageOf}
 use Rattle.message.specs.declared.Message.{Message}
-use Rattle.judgement.specs.Rules.{infoIn, expiresIn, eventIs, originOf, located, secondsTo, quietOf}
-use Rattle.judgement.specs.Judged.{without, bodyWith, lasting, bodyIn, alerted, judgedBy, judgedOf}
+use Rattle.judgement.specs.WorkingRules.{infoIn, expiresIn, eventIs, originOf, located, secondsTo, quietOf}
+use Rattle.judgement.specs.WorkingJudged.{without, bodyWith, lasting, bodyIn, alerted, judgedBy, judgedOf}
 use Rattle.judgement.specs.declared.Judged.{Judged}
 use Rattle.unread.specs.Kept.{OnlyUnreadDiffers}
 use Rattle.unread.proofs.Alike.{both-ways, LeafAs, InfoAs}

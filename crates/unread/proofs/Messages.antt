@@ -13,9 +13,9 @@ use Rattle.reads.specs.declared.Leaf as read-leaf
 use Rattle.reads.specs.declared.Info as read-info
 use Rattle.reads.specs.declared.Alert as read-alert
 use Rattle.message.specs.Root.{prefixOf, rootOk}
-use Rattle.reads.specs.Leaves.{sentLeaf}
-use Rattle.message.specs.Judged.{onlyOf, identified, timed, valued, typed, statusOf, msgTypeOf, scopeOf, infoOk, fieldOf, referenced, numberWith, numberOf}
-use Rattle.message.specs.Message.{refusedAs, judged, passed, ofRoot, messageOf}
+use Rattle.reads.specs.WorkingLeaves.{sentLeaf}
+use Rattle.message.specs.WorkingJudged.{onlyOf, identified, timed, valued, typed, statusOf, msgTypeOf, scopeOf, infoOk, fieldOf, referenced, numberWith, numberOf}
+use Rattle.message.specs.WorkingMessage.{refusedAs, judged, passed, ofRoot, messageOf}
 use Rattle.message.specs.declared.Message.{Message}
 use Rattle.leaves.proofs.Reals.{leaf-is}
 use Rattle.demands.specs.Numbers.{isRead, rootIs}

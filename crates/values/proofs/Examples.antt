@@ -11,7 +11,8 @@ use Rattle.octets.specs.declared.Num.the-variants.{Value, Bad}
 use Rattle.pieces.specs.Classes.{mayStand, isPlain, figureOf, isFigure}
 use Rattle.pieces.specs.Pieces.{inNote, noteAt, wordedAt, numeralFrom, numberAt, refAt, charAt}
 use Rattle.values.specs.Chars.{met, passed, nextAt, turn, fold, textAt}
-use Rattle.values.specs.Value.{trimmed, spaced, runs, collapsed, valueAt, sixDigits}
+use Rattle.values.specs.Value.{trimmed, spaced, runs, collapsed, valueAt}
+use Rattle.values.specs.WorkingSteps.{sixDigits}
 
 abbrev said : String → List ℕ
 said t = valueAt (bytes t) 0

@@ -18,7 +18,8 @@ use Rattle.octets.proofs.Parts.{tail-step}
 use Rattle.octets.proofs.Runs.{copy-step}
 use Rattle.octets.proofs.Sames.{same-step, same-stop}
 use Rattle.pieces.proofs.Goes.{Goes}
-use Rattle.values.specs.Value.{valueAt, restAt, leadAt, stepAt, isMark}
+use Rattle.values.specs.Value.{valueAt}
+use Rattle.values.specs.WorkingSteps.{restAt, leadAt, stepAt, isMark}
 use Rattle.values.specs.declared.Got.the-variants.{Is, Done}
 use Rattle.values.proofs.Steps.{value-start, step-more, step-done, mark-step}
 

@@ -15,7 +15,8 @@ use Rattle.octets.proofs.Tests.{and-left, and-right, between-low}
 use Rattle.pieces.specs.Classes.{mayStand, isPlain}
 use Rattle.pieces.proofs.Goes.{Goes}
 use Rattle.values.specs.Chars.{nextAt, textAt}
-use Rattle.values.specs.Value.{trimmed, spaced, runs, collapsed, valueAt, restAt, gapAt, stepAt, placed, leadAt, isMark}
+use Rattle.values.specs.Value.{trimmed, spaced, runs, collapsed, valueAt}
+use Rattle.values.specs.WorkingSteps.{restAt, gapAt, stepAt, placed, leadAt, isMark}
 use Rattle.values.specs.declared.Next.the-variants.{Char, Over, Last}
 use Rattle.values.specs.declared.Got.{Got}
 use Rattle.values.specs.declared.Got.the-variants.{Is, Done}

@@ -9,7 +9,8 @@ ghost use lib.ListN.{length, take};
 ghost use lib.Seq.{sets};
 ghost use Rattle.octets.specs.Bytes.{byteAt, same};
 ghost use Rattle.values.specs.Chars.{nextAt};
-ghost use Rattle.values.specs.Value.{valueAt, leadAt, gapAt, stepAt, small, form, sixDigits, isMark};
+ghost use Rattle.values.specs.Value.{valueAt, small};
+ghost use Rattle.values.specs.WorkingSteps.{leadAt, gapAt, stepAt, form, sixDigits, isMark};
 
 // What stands at a place of a text: a character and where the next stands, a comment and where it ends, or the end.
 pub enum Next {

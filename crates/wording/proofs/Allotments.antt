@@ -12,7 +12,7 @@ use lib.ListN.{length, length-append}
 use borrow.Author.Tests.{leb-true, leb-false, eqb-true}
 use Rattle.octets.proofs.Tests.{either-way}
 use Rattle.octets.specs.Bytes.{same}
-use Rattle.wording.specs.Given.{givenTo}
+use Rattle.wording.specs.WorkingGiven.{givenTo}
 use Rattle.wording.specs.Text.{Shares, after, one, roomOf, sharesOf, partsOf}
 use Rattle.wording.proofs.Cuts.{one-none, one-some, cut-same, part, part-none, part-long}
 

@@ -9,7 +9,7 @@ ghost use lib.Seq.{sets};
 ghost use Rattle.values.specs.Value.{valueAt};
 ghost use Rattle.sentence.specs.Words.{sentenceOf};
 ghost use Rattle.wording.specs.Text.{cut, after, phrase, partsOf, textOf};
-ghost use Rattle.wording.specs.Given.{givenTo};
+ghost use Rattle.wording.specs.WorkingGiven.{givenTo};
 
 // The 1,800 characters that a text may have, less the space before what is put last.
 const ROOM: usize = 1799;

@@ -8,7 +8,7 @@ use mathlib.Core.List.{List, [], _∷_}
 use native.Mathlib.Omega.{arith}
 use lib.ListN.{getD}
 use Rattle.octets.specs.Bytes.{pick, same}
-use Rattle.words.specs.Words.{whichOf}
+use Rattle.words.specs.WorkingWords.{whichOf}
 
 module _ {A : Type 0} (none : A) where
   -- the answer of the first word that is w; a definition by a chain of tests is one

@@ -4,7 +4,7 @@ use mathlib.Core.Path.{_≡_, refl}
 use Prim.Native.Nat.{ℕ}
 use Rattle.octets.specs.Bytes.{same}
 use Rattle.octets.specs.Text.{bytes}
-use Rattle.words.specs.Words.{wordsOf, whichOf}
+use Rattle.words.specs.WorkingWords.{wordsOf, whichOf}
 
 abbrev table : List (List ℕ)
 table = wordsOf (4 ∷ 6 ∷ 0 ∷ []) (bytes "sentsender")

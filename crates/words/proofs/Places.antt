@@ -9,7 +9,7 @@ use native.Mathlib.Omega.{arith}
 use lib.ListN.{length, getD}
 use Rattle.octets.specs.Bytes.{same}
 use Rattle.octets.proofs.Sames.{same-long}
-use Rattle.words.specs.Words.{whichOf}
+use Rattle.words.specs.WorkingWords.{whichOf}
 use Rattle.words.proofs.Tables.{left, here, rest, words-over, words-cut, words-next, length-here}
 
 which-first : (x : List ℕ) (xs : List (List ℕ)) (w : List ℕ) → same w x ≡ true → whichOf (x ∷ xs) w ≡ 0

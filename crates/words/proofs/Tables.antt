@@ -9,7 +9,7 @@ use lib.ListN.{length, take, drop, getD, length-drop, drop-of-length-le}
 use lib.Seq.{drop-drop}
 use Rattle.octets.proofs.Parts.{length-part, sliced, tail-step}
 use Rattle.octets.proofs.Tests.{picked, passed-over}
-use Rattle.words.specs.Words.{wordsOf}
+use Rattle.words.specs.WorkingWords.{wordsOf}
 
 words-none : (t : List ℕ) → wordsOf [] t ≡ []
 unfolding wordsOf

@@ -4,7 +4,7 @@ ghost use mathlib.Core.Path.{_≡_};
 ghost use mathlib.Core.List.{[]};
 ghost use lib.ListN.{getD};
 ghost use Rattle.values.specs.Value.{valueAt};
-ghost use Rattle.words.specs.Words.{wordsOf, whichOf};
+ghost use Rattle.words.specs.WorkingWords.{wordsOf, whichOf};
 
 // The place of the first word that is the name; how many words there are where none is. A word of another length is passed over at once.
 pub fn which(name: &[u8], lens: &[u8], text: &[u8]) -> usize

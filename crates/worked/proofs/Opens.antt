@@ -16,35 +16,39 @@ use Rattle.markup.specs.Tree.{child, closed, elemAt, items, opened, put, sealed
 use Rattle.markup.specs.Tree as markup-tree
 use Rattle.values.specs.Chars.{chars, charsTo, fold, met, nextAt, spelled, textAt}
 use Rattle.values.specs.Chars as values-chars
-use Rattle.values.specs.Value.{collapsed, runs, sixDigits, small, trimmed}
+use Rattle.values.specs.Value.{collapsed, runs, small, trimmed}
+use Rattle.values.specs.WorkingSteps.{sixDigits}
 use Rattle.values.specs.Value as values-value
-use Rattle.reads.specs.Leaves.{pairOk, soundOf}
+use Rattle.reads.specs.WorkingLeaves.{pairOk, soundOf}
 use Rattle.reads.specs.Names.{localAt}
-use Rattle.reads.specs.Steps.{audioOf, audioStep, english, eventStep, locationStep, parameterStep, placed}
-use Rattle.gather.specs.Read.{alertOf, bare, fromEnglish, infoOf, named, selected, selection}
-use Rattle.gather.specs.Visit.{placeOf}
+use Rattle.reads.specs.WorkingSteps.{audioOf, audioStep, english, eventStep, locationStep, parameterStep, placed}
+use Rattle.gather.specs.WorkingRead.{alertOf, fromEnglish, infoOf, selected, selection}
+use Rattle.gather.specs.Read.{bare, named}
+use Rattle.gather.specs.WorkingVisit.{placeOf}
 use Rattle.clock.specs.Calendar.{dayNumber, daysBefore, daysTo, divides, leap, monthDays, months, sum, yearDays}
 use Rattle.clock.specs.Period.{atMost, periodOf, up}
 use Rattle.clock.specs.Stamp.{begun, dayOf, stampOf, yearOf}
 use Rattle.clock.specs.Time.{isSign, signed, since2000, timeOf, utc, within}
 use Rattle.clock.specs.Written.{jjjhhmm, tttt}
-use Rattle.fields.specs.Fields.{identityOk, indexIn, isIdentity, msgTypeIn}
-use Rattle.fields.specs.References.{behind, groupOk, referencesOk, upTo, words}
+use Rattle.fields.specs.Fields.{identityOk, isIdentity}
+use Rattle.fields.specs.WorkingFields.{indexIn, msgTypeIn}
+use Rattle.fields.specs.References.{behind, upTo, words}
+use Rattle.fields.specs.WorkingFields.{groupOk, referencesOk}
 use Rattle.parts.specs.Originator.{originatorBytes, originatorOf}
 use Rattle.parts.specs.Parts.{eventOk, isPeriod, isStation, isZero, stationOk}
 use Rattle.header.specs.Body.{bodyBytes, bodyForm, headForm, lengthForm, locationsBytes, locationsForm, periodForm, timeForm, timesBytes}
 use Rattle.header.specs.Header.{headerBytes}
-use Rattle.message.specs.Judged.{identified, infoOk, numberWith, onlyOf, referenced, timed, typed}
-use Rattle.message.specs.Judged as message-judged
-use Rattle.message.specs.Message.{judged, messageOf, ofRoot}
-use Rattle.message.specs.Message as message-message
+use Rattle.message.specs.WorkingJudged.{identified, infoOk, numberWith, onlyOf, referenced, timed, typed}
+use Rattle.message.specs.WorkingJudged as message-judged
+use Rattle.message.specs.WorkingMessage.{judged, messageOf, ofRoot}
+use Rattle.message.specs.WorkingMessage as message-message
 use Rattle.message.specs.Root.{beforeColon, colonAt, isNamespace, prefixOf, rootOk, rootWith, xmlnsOf}
-use Rattle.judgement.specs.Judged.{alerted, bodyWith, judgedBy}
-use Rattle.judgement.specs.Rules.{eventIs, located, originOf, quietOf, secondsTo, unplaced}
+use Rattle.judgement.specs.WorkingJudged.{alerted, bodyWith, judgedBy}
+use Rattle.judgement.specs.WorkingRules.{eventIs, located, originOf, quietOf, secondsTo, unplaced}
 use Rattle.sentence.specs.Words.{locationWord, orgWords, others, sentenceOf, whenWords, whoWords, wordsIn}
 use Rattle.sentence.specs.Words as sentence-words
 use Rattle.wording.specs.Text.{after, cut, partsOf, phrase, roomOf, sharesOf, textOf}
-use Rattle.convert.specs.Convert.{alertGiven, convertOf, outcomeOf, roomy, textIn, uriIn}
+use Rattle.convert.specs.WorkingConvert.{alertGiven, convertOf, outcomeOf, roomy, textIn, uriIn}
 use Rattle.report.specs.Lines.{alertLines, audioLine, audioWords, carryLine, decimal, line, linesOf, numberLine, orNone, valueLine}
 use Rattle.report.specs.Lines as report-lines
 use Rattle.report.specs.Program.{programOf}

@@ -6,11 +6,12 @@ use mathlib.Core.List.{_++_}
 use lib.ListN.{length, drop}
 use Rattle.records.specs.Record.{aired}
 use Rattle.ledger.specs.Sorted.{insert}
-use Rattle.ledger.specs.Board.{carried}
+use Rattle.ledger.specs.WorkingBoard.{carried}
 use Rattle.ledger.proofs.Sorts.{insert-length}
-use Rattle.slots.specs.Slots.{rec, recs, flat}
+use Rattle.slots.specs.WorkingSlots.{rec, flat}
+use Rattle.slots.specs.Slots.{recs}
 use Rattle.slots.proofs.Records.{recs-length}
-use Rattle.board.specs.Rules.{added}
+use Rattle.board.specs.WorkingRules.{added}
 use Rattle.board.proofs.Finds.{header-whole, aired-whole}
 use borrow.Author.Needs.{needs}
 use Rattle.board.proofs.air.Statement.{statement}

@@ -3,8 +3,9 @@ use mathlib.Core.Path.{sym, ap₂, _∙_}
 use native.Mathlib.Omega.{arith}
 use borrow.Author.Tests.{not-true, not-false}
 use Rattle.octets.specs.Bytes.{same}
-use Rattle.ledger.specs.Board.{carried, live}
-use Rattle.slots.specs.Slots.{rec, recs}
+use Rattle.ledger.specs.WorkingBoard.{carried, live}
+use Rattle.slots.specs.WorkingSlots.{rec}
+use Rattle.slots.specs.Slots.{recs}
 use Rattle.board.proofs.Finds.{mark-at, not-alike, other-header, alike-yes}
 use borrow.Author.Needs.{needs}
 use Rattle.board.proofs.alike.Statement.{statement}

@@ -5,7 +5,7 @@ use borrow.Author.Tests.{not-true, not-false}
 use Rattle.octets.specs.declared.Order.the-variants.{Less, Same, More}
 use Rattle.octets.specs.Order.{cmp}
 use Rattle.slots.specs.Slots.{recs}
-use Rattle.ledger.specs.Scan.{after}
+use Rattle.ledger.specs.WorkingScan.{after}
 use Rattle.board.proofs.Finds.{go-same, go-first, go-within, go-by}
 use borrow.Author.Needs.{needs}
 use Rattle.board.proofs.better.Statement.{statement}

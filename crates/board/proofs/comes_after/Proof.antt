@@ -3,8 +3,9 @@ use mathlib.Core.Path.{sym, ap, _∙_}
 use borrow.Author.Tests.{not-true, not-false}
 use Rattle.octets.specs.declared.Order.the-variants.{Less, Same, More}
 use Rattle.octets.specs.Order.{cmp}
-use Rattle.ledger.specs.Board.{live}
-use Rattle.slots.specs.Slots.{rec, recs}
+use Rattle.ledger.specs.WorkingBoard.{live}
+use Rattle.slots.specs.WorkingSlots.{rec}
+use Rattle.slots.specs.Slots.{recs}
 use Rattle.board.proofs.Finds.{mark-at, unmarked, marked}
 use borrow.Author.Needs.{needs}
 use Rattle.board.proofs.comes_after.Statement.{statement}

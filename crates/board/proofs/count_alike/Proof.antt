@@ -3,8 +3,9 @@ use Prim.Native.Nat.{_+_, _-_, _≤_}
 use mathlib.Core.Path.{_≡_}
 use native.Mathlib.Omega.{arith}
 use lib.ListN.{drop}
-use Rattle.ledger.specs.Board.{carried, live, countOf}
-use Rattle.slots.specs.Slots.{rec, recs}
+use Rattle.ledger.specs.WorkingBoard.{carried, live, countOf}
+use Rattle.slots.specs.WorkingSlots.{rec}
+use Rattle.slots.specs.Slots.{recs}
 use Rattle.board.proofs.Finds.{count-on, count-end}
 use borrow.Author.Needs.{needs}
 use Rattle.board.proofs.count_alike.Statement.{statement}

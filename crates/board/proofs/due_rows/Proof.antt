@@ -4,10 +4,10 @@ use mathlib.Core.Path.{_≡_, refl}
 use native.Mathlib.Omega.{arith}
 use lib.ListN.{length}
 use lib.ListN.{length-replicate}
-use Rattle.ledger.specs.Board.{live, due}
+use Rattle.ledger.specs.WorkingBoard.{live, due}
 use Rattle.slots.specs.Slots.{recs}
-use Rattle.board.specs.Calls.{blank}
-use Rattle.board.specs.Marks.{Marks}
+use Rattle.board.specs.WorkingCalls.{blank}
+use Rattle.board.specs.WorkingMarks.{Marks}
 use Rattle.board.proofs.Finds.{Standing, stand-start, row-within, stand-next, stand-end, due-most}
 use borrow.Author.Needs.{needs}
 use Rattle.board.proofs.due_rows.Statement.{statement}

@@ -6,7 +6,8 @@ use mathlib.Core.List.{List}
 use lib.ListN.{length}
 use Rattle.records.specs.Record.{withdrawal, aired}
 use Rattle.ledger.specs.Sorted.{has}
-use Rattle.slots.specs.Slots.{rec, recs}
+use Rattle.slots.specs.WorkingSlots.{rec}
+use Rattle.slots.specs.Slots.{recs}
 use Rattle.slots.proofs.Records.{kind-rec}
 use Rattle.board.proofs.Finds.{key-part, header-whole, aired-whole, not-a-notice, is-withdrawn, live-by}
 use borrow.Author.Needs.{needs}

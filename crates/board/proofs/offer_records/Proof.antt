@@ -7,8 +7,9 @@ use lib.ListN.{length}
 use mathlib.Core.Bool.{true}
 use borrow.Author.Tests.{not-true, not-false}
 use Rattle.slots.specs.Slots.{recs}
-use Rattle.board.specs.Rules.{boardOf, boardOk}
-use Rattle.board.specs.Calls.{Offering}
+use Rattle.board.specs.Rules.{boardOf}
+use Rattle.board.specs.WorkingRules.{boardOk}
+use Rattle.board.specs.WorkingCalls.{Offering}
 use Rattle.board.proofs.Boards.{board-within, kept}
 use Rattle.board.proofs.Answers.{offer-bad, filled-sorted, offer-full, offer-taken}
 use borrow.Author.Needs.{needs}

@@ -2,7 +2,7 @@
 use mathlib.Core.Bool.{and-true}
 use borrow.Author.Tests.{le-leb, lt-leb}
 use Rattle.octets.specs.Bytes.{every}
-use Rattle.convert.specs.Convert.{roomy}
+use Rattle.convert.specs.WorkingConvert.{roomy}
 use Rattle.convert.proofs.is_roomy.Statement.{statement}
 use Rattle.convert.proofs.is_roomy.Tie as tie
 

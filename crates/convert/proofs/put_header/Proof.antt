@@ -7,7 +7,7 @@ use native.Mathlib.Omega.{arith}
 use lib.Seq.{sets, take-all}
 use Rattle.parts.proofs.Has.{has, station-long}
 use Rattle.header.proofs.Lengths.{length-header}
-use Rattle.convert.specs.Convert.{headerIn}
+use Rattle.convert.specs.WorkingConvert.{headerIn}
 use borrow.Author.Needs.{needs}
 use Rattle.convert.proofs.put_header.Statement.{statement}
 use Rattle.convert.proofs.put_header.Tie as tie

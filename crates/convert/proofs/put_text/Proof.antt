@@ -1,6 +1,6 @@
 -- The values of the selected info stand at their places.
 use Rattle.parts.proofs.Has.{has}
-use Rattle.convert.specs.Convert.{textIn}
+use Rattle.convert.specs.WorkingConvert.{textIn}
 use borrow.Author.Needs.{needs}
 use Rattle.convert.proofs.put_text.Statement.{statement}
 use Rattle.convert.proofs.put_text.Tie as tie

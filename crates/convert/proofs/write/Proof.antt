@@ -2,7 +2,8 @@
 use borrow.Author.Tests.{leb-true}
 use Rattle.octets.specs.Text.{bytes}
 use Rattle.octets.proofs.Tests.{each-of}
-use Rattle.convert.specs.Convert.{roomy, alertGiven, answerOf}
+use Rattle.convert.specs.WorkingConvert.{roomy, alertGiven}
+use Rattle.convert.specs.Convert.{answerOf}
 use borrow.Author.Needs.{needs}
 use Rattle.convert.proofs.write.Statement.{statement}
 use Rattle.convert.proofs.write.Tie as tie

@@ -1,7 +1,7 @@
 -- The names are tried in their order.
 use mathlib.Core.Path.{sym, _∙_}
 use Rattle.octets.specs.Text.{bytes}
-use Rattle.fields.specs.Fields.{msgTypeIn}
+use Rattle.fields.specs.WorkingFields.{msgTypeIn}
 use borrow.Author.Needs.{needs}
 use Rattle.fields.proofs.msg_type_at.Statement.{statement}
 use Rattle.fields.proofs.msg_type_at.Tie as tie

@@ -4,9 +4,11 @@ use mathlib.Core.Path.{_≡_, refl, sym, ap, _∙_}
 use native.Mathlib.Omega.{arith}
 use borrow.Author.Tests.{not-true, not-false}
 use lib.ListN.{replicate}
-use Rattle.values.specs.Value.{valueAt, restAt}
-use Rattle.fields.specs.References.{words, referencesOk}
-use Rattle.fields.specs.Words.{wordIn}
+use Rattle.values.specs.Value.{valueAt}
+use Rattle.values.specs.WorkingSteps.{restAt}
+use Rattle.fields.specs.References.{words}
+use Rattle.fields.specs.WorkingFields.{referencesOk}
+use Rattle.fields.specs.WorkingWords.{wordIn}
 use Rattle.fields.proofs.Buffers.{put-long}
 use Rattle.fields.proofs.Groups.{group-long}
 use Rattle.fields.proofs.Words.{len-is, next-is, more-is}

@@ -4,8 +4,8 @@ use denote.Ref.{now}
 use borrow.Author.Needs.{needs}
 use Rattle.octets.specs.Text.{bytes}
 use Rattle.values.specs.Value.{valueAt}
-use Rattle.words.specs.Words.{wordsOf}
-use Rattle.fields.specs.Fields.{indexIn, statuses}
+use Rattle.words.specs.WorkingWords.{wordsOf}
+use Rattle.fields.specs.WorkingFields.{indexIn, statuses}
 use Rattle.fields.proofs.Places.{Counted, counted}
 use Rattle.fields.proofs.status_at.Statement.{statement}
 use Rattle.fields.proofs.status_at.Tie as tie

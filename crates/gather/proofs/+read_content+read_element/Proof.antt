@@ -16,7 +16,7 @@ use Rattle.markup.specs.Tree.{contentAt}
 use Rattle.reads.specs.declared.Context.{Context}
 use Rattle.reads.specs.declared.State.{State}
 use Rattle.gather.specs.declared.Touch.the-variants.{Holds}
-use Rattle.gather.specs.Visit.{touchIn, left, placeOf, settled, finished, gotHeld}
+use Rattle.gather.specs.WorkingVisit.{touchIn, left, placeOf, settled, finished, gotHeld}
 use Rattle.gather.proofs.Passes.{Passing, passing-starts, passing-text, passing-note, passing-close, passing-bad, child-goes, passing-child, passing-none, inner, one-deep, one-shut, one-empty, one-bad, one-close}
 use borrow.Fn.Kinds.{In}
 use borrow.Fn.PlainCycle.{Measures, is, falls, and}

@@ -1,5 +1,5 @@
 -- By the context.
-use Rattle.gather.specs.Visit.{pairAdded}
+use Rattle.gather.specs.WorkingVisit.{pairAdded}
 use borrow.Author.Needs.{needs}
 use Rattle.gather.proofs.add_pair.Statement.{statement}
 use Rattle.gather.proofs.add_pair.Tie as tie

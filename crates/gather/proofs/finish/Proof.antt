@@ -1,6 +1,6 @@
 -- The end tag decides.
 use mathlib.Core.Path.{sym, _∙_}
-use Rattle.gather.specs.Visit.{finished}
+use Rattle.gather.specs.WorkingVisit.{finished}
 use borrow.Author.Needs.{needs}
 use Rattle.gather.proofs.finish.Statement.{statement}
 use Rattle.gather.proofs.finish.Tie as tie

@@ -1,6 +1,6 @@
 -- By the context.
 use mathlib.Core.Path.{_∙_}
-use Rattle.gather.specs.Visit.{left}
+use Rattle.gather.specs.WorkingVisit.{left}
 use borrow.Author.Needs.{needs}
 use Rattle.gather.proofs.leave.Statement.{statement}
 use Rattle.gather.proofs.leave.Tie as tie

@@ -1,6 +1,6 @@
 -- By the test that the code makes.
 use borrow.Author.Tests.{eq-eqb, ne-eqb}
-use Rattle.gather.specs.Visit.{placeOf}
+use Rattle.gather.specs.WorkingVisit.{placeOf}
 use Rattle.gather.proofs.place.Statement.{statement}
 use Rattle.gather.proofs.place.Tie as tie
 

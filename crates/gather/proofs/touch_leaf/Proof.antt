@@ -1,5 +1,5 @@
 -- By the context.
-use Rattle.gather.specs.Visit.{touchIn}
+use Rattle.gather.specs.WorkingVisit.{touchIn}
 use borrow.Author.Needs.{needs}
 use Rattle.gather.proofs.touch_leaf.Statement.{statement}
 use Rattle.gather.proofs.touch_leaf.Tie as tie

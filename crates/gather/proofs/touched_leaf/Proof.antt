@@ -1,5 +1,5 @@
 -- By what is learnt.
-use Rattle.gather.specs.Visit.{touched}
+use Rattle.gather.specs.WorkingVisit.{touched}
 use borrow.Author.Needs.{needs}
 use Rattle.gather.proofs.touched_leaf.Statement.{statement}
 use Rattle.gather.proofs.touched_leaf.Tie as tie

@@ -15,7 +15,7 @@ use Rattle.octets.proofs.Everys.{last-decides}
 use Rattle.octets.proofs.Numbers.{num-value, num-none}
 use Rattle.octets.proofs.Runs.{sets-more}
 use Rattle.octets.proofs.Tests.{one-fails}
-use Rattle.parts.specs.Asked.{padded}
+use Rattle.parts.specs.Parts.{padded}
 use Rattle.header.proofs.locations_of.Statement.{statement}
 use Rattle.header.proofs.locations_of.Tie as tie
 

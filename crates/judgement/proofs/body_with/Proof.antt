@@ -1,5 +1,5 @@
 -- The instant and the seconds give the times; all else is handed on.
-use Rattle.judgement.specs.Judged.{bodyWith}
+use Rattle.judgement.specs.WorkingJudged.{bodyWith}
 use borrow.Author.Needs.{needs}
 use Rattle.judgement.proofs.body_with.Statement.{statement}
 use Rattle.judgement.proofs.body_with.Tie as tie

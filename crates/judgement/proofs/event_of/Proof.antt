@@ -10,7 +10,7 @@ use Rattle.values.specs.Value.{valueAt}
 use Rattle.parts.specs.Parts.{eventOk}
 use Rattle.parts.proofs.Has.{event-long}
 use Rattle.fields.proofs.Buffers.{copy-fits}
-use Rattle.judgement.specs.Rules.{eventIs, eventOf}
+use Rattle.judgement.specs.WorkingRules.{eventIs, eventOf}
 use Rattle.judgement.proofs.Codes.{event-judged, three-of, three-back}
 use borrow.Author.Needs.{needs}
 use Rattle.judgement.proofs.event_of.Statement.{statement}

@@ -1,7 +1,7 @@
 -- One that is bad decides; else the count does.
 use mathlib.Core.Bool.{and-true}
 use Rattle.octets.specs.Bytes.{every}
-use Rattle.judgement.specs.Rules.{located}
+use Rattle.judgement.specs.WorkingRules.{located}
 use Rattle.judgement.proofs.is_located.Statement.{statement}
 use Rattle.judgement.proofs.is_located.Tie as tie
 

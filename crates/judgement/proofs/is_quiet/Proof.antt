@@ -1,7 +1,7 @@
 -- Only a Cancel is asked.
 use mathlib.Core.Path.{sym, _∙_}
 use borrow.Author.Tests.{not-true, not-false}
-use Rattle.judgement.specs.Rules.{quietOf}
+use Rattle.judgement.specs.WorkingRules.{quietOf}
 use borrow.Author.Needs.{needs}
 use Rattle.judgement.proofs.is_quiet.Statement.{statement}
 use Rattle.judgement.proofs.is_quiet.Tie as tie

@@ -1,7 +1,7 @@
 -- One that is bad decides; else the count does.
 use mathlib.Core.Bool.{and-true}
 use Rattle.octets.specs.Bytes.{every}
-use Rattle.judgement.specs.Rules.{unplaced}
+use Rattle.judgement.specs.WorkingRules.{unplaced}
 use Rattle.judgement.proofs.is_unplaced.Statement.{statement}
 use Rattle.judgement.proofs.is_unplaced.Tie as tie
 

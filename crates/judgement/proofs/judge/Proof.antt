@@ -3,7 +3,7 @@ use denote.Ref.{now}
 use mathlib.Core.Path.{sym, _∙_}
 use borrow.Author.Tests.{eq-eqb, ne-eqb}
 use Rattle.leaves.proofs.Fits.{sent-in}
-use Rattle.judgement.specs.Judged.{judgedBy}
+use Rattle.judgement.specs.WorkingJudged.{judgedBy}
 use borrow.Author.Needs.{needs}
 use Rattle.judgement.proofs.judge.Statement.{statement}
 use Rattle.judgement.proofs.judge.Tie as tie

@@ -6,7 +6,7 @@ use borrow.Author.Tests.{eq-eqb, ne-eqb}
 use lib.ListN.{length, length-take}
 use Rattle.values.specs.Value.{valueAt}
 use Rattle.parts.specs.Originator.{originatorOf}
-use Rattle.judgement.specs.Rules.{originOf}
+use Rattle.judgement.specs.WorkingRules.{originOf}
 use Rattle.judgement.proofs.Codes.{three-of, three-back, origin-other}
 use borrow.Author.Needs.{needs}
 use Rattle.judgement.proofs.origin_of.Statement.{statement}

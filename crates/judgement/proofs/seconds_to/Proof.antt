@@ -4,7 +4,7 @@ use native.Mathlib.Omega.{arith}
 use borrow.Author.Tests.{eq-eqb, ne-eqb}
 use Rattle.clock.specs.Time.{timeOf, instantIn}
 use Rattle.values.specs.Value.{valueAt}
-use Rattle.judgement.specs.Rules.{secondsTo}
+use Rattle.judgement.specs.WorkingRules.{secondsTo}
 use borrow.Author.Needs.{needs}
 use Rattle.judgement.proofs.seconds_to.Statement.{statement}
 use Rattle.judgement.proofs.seconds_to.Tie as tie

@@ -3,10 +3,10 @@ use denote.Ref.{now}
 use mathlib.Core.Bool.{Bool, not}
 use mathlib.Core.List.{List, [], _∷_}
 use lib.Dec.{eqb}
-use Rattle.message.specs.Judged.{faultsWith}
+use Rattle.message.specs.WorkingJudged.{faultsWith}
 -- The bits of the faults are those of the definition.
 use mathlib.Core.Path.{_≡_, ap, _∙_}
-use Rattle.faults.specs.Field.{lowest}
+use Rattle.faults.specs.WorkingField.{lowest}
 use borrow.Author.Needs.{needs}
 use Rattle.message.proofs.field_with.Statement.{statement}
 use Rattle.message.proofs.field_with.Tie as tie

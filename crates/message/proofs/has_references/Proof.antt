@@ -1,7 +1,7 @@
 -- A leaf that is not the only one is none; else its value decides.
 use mathlib.Core.Path.{sym, _∙_}
 use borrow.Author.Tests.{not-true, not-false}
-use Rattle.message.specs.Judged.{referenced}
+use Rattle.message.specs.WorkingJudged.{referenced}
 use borrow.Author.Needs.{needs}
 use Rattle.message.proofs.has_references.Statement.{statement}
 use Rattle.message.proofs.has_references.Tie as tie

@@ -1,7 +1,7 @@
 -- A leaf that is not the only one is none; else its value decides.
 use mathlib.Core.Path.{sym, _∙_}
 use borrow.Author.Tests.{not-true, not-false}
-use Rattle.message.specs.Judged.{identified}
+use Rattle.message.specs.WorkingJudged.{identified}
 use borrow.Author.Needs.{needs}
 use Rattle.message.proofs.is_identified.Statement.{statement}
 use Rattle.message.proofs.is_identified.Tie as tie

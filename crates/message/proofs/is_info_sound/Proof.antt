@@ -2,7 +2,7 @@
 use mathlib.Core.Path.{sym, _∙_}
 use borrow.Author.Tests.{not-true, not-false}
 use Rattle.octets.specs.Bytes.{every}
-use Rattle.message.specs.Judged.{infoOk}
+use Rattle.message.specs.WorkingJudged.{infoOk}
 use borrow.Author.Needs.{needs}
 use Rattle.message.proofs.is_info_sound.Statement.{statement}
 use Rattle.message.proofs.is_info_sound.Tie as tie

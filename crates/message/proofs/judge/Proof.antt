@@ -1,5 +1,5 @@
 -- Each leaf is read once, and its value handed on.
-use Rattle.message.specs.Message.{judged}
+use Rattle.message.specs.WorkingMessage.{judged}
 use borrow.Author.Needs.{needs}
 use Rattle.message.proofs.judge.Statement.{statement}
 use Rattle.message.proofs.judge.Tie as tie

@@ -9,7 +9,7 @@ use borrow.Author.Tests.{eq-eqb, ne-eqb}
 use Rattle.octets.specs.Bytes.{pick}
 use Rattle.reads.specs.declared.Leaf.{Leaf}
 use Rattle.fields.specs.declared.MsgType.{MsgType}
-use Rattle.message.specs.Judged.{isAckOrError, asksReferences, referenced, numberWith}
+use Rattle.message.specs.WorkingJudged.{isAckOrError, asksReferences, referenced, numberWith}
 use Rattle.message.proofs.number_with.Statement.{statement}
 use Rattle.message.proofs.number_with.Tie as tie
 

@@ -9,11 +9,11 @@ use denote.Ref.{now}
 use Rattle.pieces.specs.declared.End.the-variants.{At}
 use Rattle.markup.specs.Tree.{One, elemAt}
 use Rattle.markup.specs.Document.{miscAt}
-use Rattle.reads.specs.Leaves.{fresh}
+use Rattle.reads.specs.WorkingLeaves.{fresh}
 use Rattle.reads.specs.declared.Context.{Context}
 use Rattle.reads.specs.declared.State.{State}
-use Rattle.gather.specs.Visit.{gotOne}
-use Rattle.message.specs.Message.{rootContext}
+use Rattle.gather.specs.WorkingVisit.{gotOne}
+use Rattle.message.specs.WorkingMessage.{rootContext}
 use Rattle.message.proofs.Roots.{pass-none, pass-unended, pass-more, pass-other, pass-is}
 use borrow.Author.Needs.{needs}
 use Rattle.message.proofs.pass.Statement.{statement}

@@ -1,7 +1,7 @@
 -- The length, and then the rest.
 use mathlib.Core.Path.{_∙_}
 use Rattle.octets.proofs.Tests.{between-is, below-between, above-between}
-use Rattle.message.specs.Message.{messageOf}
+use Rattle.message.specs.WorkingMessage.{messageOf}
 use borrow.Author.Needs.{needs}
 use Rattle.message.proofs.read.Statement.{statement}
 use Rattle.message.proofs.read.Tie as tie

@@ -2,7 +2,7 @@
 use mathlib.Core.Path.{_∙_}
 use denote.Ref.{now}
 use Rattle.reader.proofs.Forward.{root-past}
-use Rattle.message.specs.Message.{ofRoot}
+use Rattle.message.specs.WorkingMessage.{ofRoot}
 use borrow.Author.Needs.{needs}
 use Rattle.message.proofs.read_at.Statement.{statement}
 use Rattle.message.proofs.read_at.Tie as tie

@@ -37,7 +37,7 @@ use denote.Exit.{yes}
 use denote.Triple.Clauses.{ensured, lasts}
 use Rattle.markup.specs.Tree.{elemAt}
 use Rattle.markup.specs.Document.{leadAt, rooted, docAt}
-use Rattle.reader.specs.Position.{reached}
+use Rattle.reader.specs.WorkingPosition.{reached}
 use Rattle.reader.specs.declared.Reader.{Reader}
 use Rattle.reader.proofs.Forward.{doc-reached}
 use Rattle.reader.proofs.Reader as T
@@ -50,7 +50,7 @@ use Rattle.reader.proofs.lead as lead
 use Rattle.reader.proofs.lead.Symbol as lead-def
 use Rattle.reader.proofs.lead.Symbol.{name as #reader·lead}
 use Rattle.reader.proofs.lead.Met as lead-thm
-use Rattle.message.specs.Message.{ofRoot}
+use Rattle.message.specs.WorkingMessage.{ofRoot}
 use Rattle.message.specs.declared.Message.{Message}
 use Rattle.message.proofs.Message as S
 use Rattle.message.proofs.Message.Laws as S′

@@ -46,7 +46,7 @@ use Rattle.markup.specs.Document.{rooted}
 use Rattle.reader.specs.declared.Reader.{Reader}
 use Rattle.reader.proofs.Reader as T
 use Rattle.reader.proofs.Reader.Laws as T′
-use Rattle.message.specs.Message.{ofRoot}
+use Rattle.message.specs.WorkingMessage.{ofRoot}
 use Rattle.message.specs.declared.Message.{Message}
 use Rattle.message.proofs.Message as S
 use Rattle.message.proofs.Message.Laws as S′

@@ -12,7 +12,7 @@ use Rattle.pieces.specs.declared.End.the-variants.{At}
 use Rattle.markup.specs.Tree.{elemAt}
 use Rattle.markup.specs.Document.{rooted}
 use Rattle.message.specs.Root.{rootWith, rootOk}
-use Rattle.message.specs.Message.{passed}
+use Rattle.message.specs.WorkingMessage.{passed}
 use Rattle.message.proofs.Roots.{root-unnamed, root-named, prefixed, root-prefixed, unprefixed, root-unprefixed, name-ends, colon-from}
 use borrow.Author.Needs.{needs}
 use Rattle.message.proofs.read_root.Statement.{statement}

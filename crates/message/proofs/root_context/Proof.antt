@@ -1,5 +1,5 @@
 -- By the test.
-use Rattle.message.specs.Message.{rootContext}
+use Rattle.message.specs.WorkingMessage.{rootContext}
 use Rattle.message.proofs.root_context.Statement.{statement}
 use Rattle.message.proofs.root_context.Tie as tie
 

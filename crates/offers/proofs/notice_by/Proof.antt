@@ -3,7 +3,7 @@ use native.Mathlib.Omega.{arith}
 use lib.ListN.{length-take}
 use Rattle.offers.proofs.Taken.{Ready, ready}
 use Rattle.offers.proofs.Putting.{notice-laid}
-use Rattle.offers.specs.Records.{ownIn, headerIn}
+use Rattle.offers.specs.WorkingRecords.{ownIn, headerIn}
 use borrow.Author.Needs.{needs}
 use Rattle.offers.proofs.notice_by.Statement.{statement}
 use Rattle.offers.proofs.notice_by.Tie as tie

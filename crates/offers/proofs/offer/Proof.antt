@@ -3,7 +3,8 @@ use native.Mathlib.Omega.{arith}
 use mathlib.Core.Path.{sym, ap, _∙_}
 use borrow.Author.Tests.{not-true, not-false}
 use Rattle.judgement.specs.declared.Judged.{Judged}
-use Rattle.offers.specs.Offer.{Offering, refused}
+use Rattle.offers.specs.Offer.{Offering}
+use Rattle.offers.specs.WorkingOffer.{refused}
 use Rattle.offers.proofs.Offering.{offer-board, offer-message, judged-small}
 use borrow.Author.Needs.{needs}
 use Rattle.offers.proofs.offer.Statement.{statement}

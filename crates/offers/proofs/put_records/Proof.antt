@@ -3,7 +3,7 @@ use mathlib.Core.Path.{_≡_, sym, _∙_}
 use mathlib.Core.Bool.{true}
 use native.Mathlib.Omega.{arith}
 use borrow.Author.Tests.{not-true, not-false}
-use Rattle.message.specs.Judged.{asksReferences}
+use Rattle.message.specs.WorkingJudged.{asksReferences}
 use Rattle.offers.proofs.Taken.{Ready, ready}
 use Rattle.offers.proofs.Putting.{as-long, put-alone, put-both}
 use borrow.Author.Needs.{needs}

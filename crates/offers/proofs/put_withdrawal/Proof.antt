@@ -3,7 +3,7 @@ use mathlib.Core.Path.{ap, _∙_}
 use native.Mathlib.Omega.{arith}
 use Prim.Native.Nat.{_*_}
 use lib.Seq.{sets}
-use Rattle.fields.specs.References.{groupOk}
+use Rattle.fields.specs.WorkingFields.{groupOk}
 use Rattle.offers.proofs.Putting.{word-fits, word-back, withdrawal-is, withdrawal-long}
 use borrow.Author.Needs.{needs}
 use Rattle.offers.proofs.put_withdrawal.Statement.{statement}

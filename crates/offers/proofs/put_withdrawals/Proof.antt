@@ -3,7 +3,7 @@ use native.Mathlib.Omega.{arith}
 use borrow.Author.Tests.{not-true, not-false}
 use lib.ListN.{length}
 use Rattle.fields.specs.References.{words}
-use Rattle.values.specs.Value.{restAt}
+use Rattle.values.specs.WorkingSteps.{restAt}
 use Rattle.offers.proofs.Putting.{Putting, put-starts, next-group, next-low, put-last, fewer, put-more}
 use borrow.Author.Needs.{needs}
 use Rattle.offers.proofs.put_withdrawals.Statement.{statement}

@@ -5,7 +5,7 @@ use lib.Seq.{take-all}
 use borrow.Author.Needs.{needs}
 use borrow.Author.Tests.{not-true, not-false, ne-eqb}
 use Rattle.parts.proofs.Asking.{sixes-taken, sixes-ok-is, asked-refused, asked-taken}
-use Rattle.parts.specs.Asked.{sixesOk}
+use Rattle.parts.specs.WorkingAsked.{sixesOk}
 use Rattle.parts.specs.Originator.{isKnown}
 use Rattle.parts.specs.declared.Locations.{Locations}
 use Rattle.parts.proofs.asked_body.Statement.{statement}

@@ -14,7 +14,8 @@ use Rattle.octets.proofs.Runs.{sets-more}
 use Rattle.octets.proofs.Tests.{every-of}
 use Rattle.octets.specs.Digits.{allDigits}
 use Rattle.parts.proofs.Asking.{sixes-cut, sixes-last, digits-on, digits-broken, digits-ended, sixes-refused, sixes-taken}
-use Rattle.parts.specs.Asked.{padded, sixes, sixesTests, sixesOk}
+use Rattle.parts.specs.Parts.{padded}
+use Rattle.parts.specs.WorkingAsked.{sixes, sixesTests, sixesOk}
 use Rattle.parts.proofs.asked_locations.Statement.{statement}
 use Rattle.parts.proofs.asked_locations.Tie as tie
 

@@ -1,6 +1,6 @@
 -- Body and station, each by its own function.
 use borrow.Author.Needs.{needs}
-use Rattle.parts.specs.Asked.{askedParts}
+use Rattle.parts.specs.WorkingAsked.{askedParts}
 use Rattle.parts.proofs.asked_parts.Statement.{statement}
 use Rattle.parts.proofs.asked_parts.Tie as tie
 

@@ -4,7 +4,7 @@ use lib.Seq.{take-all}
 use borrow.Author.Needs.{needs}
 use borrow.Author.Tests.{eq-eqb, ne-eqb}
 use Rattle.octets.proofs.Tests.{picked}
-use Rattle.parts.specs.Asked.{askedStation}
+use Rattle.parts.specs.WorkingAsked.{askedStation}
 use Rattle.parts.proofs.asked_station.Statement.{statement}
 use Rattle.parts.proofs.asked_station.Tie as tie
 

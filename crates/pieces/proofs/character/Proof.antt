@@ -6,7 +6,7 @@ use denote.Ref.{now}
 use borrow.Author.Tests.{eq-eqb, ne-eqb}
 use borrow.Author.Needs.{needs}
 use Rattle.octets.specs.Bytes.{byteAt}
-use Rattle.pieces.specs.Classes.{isRun}
+use Rattle.pieces.specs.WorkingClasses.{isRun}
 use Rattle.pieces.specs.Pieces.{charAt}
 use Rattle.pieces.proofs.Inside.{plain-in, run-plain, plain-or, bracket-plain, plain-no-reference}
 use Rattle.pieces.proofs.character.Statement.{statement}

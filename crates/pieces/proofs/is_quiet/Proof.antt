@@ -2,7 +2,8 @@
 use mathlib.Core.Path.{_≡_, _∙_}
 use borrow.Author.Needs.{needs}
 use Rattle.octets.specs.Bytes.{every, oneOf, isSpace, isVisible, between}
-use Rattle.pieces.specs.Classes.{mayStand, isQuiet}
+use Rattle.pieces.specs.Classes.{mayStand}
+use Rattle.pieces.specs.WorkingClasses.{isQuiet}
 use Rattle.pieces.proofs.Inside.{quiet-rest}
 use Rattle.pieces.proofs.is_quiet.Statement.{statement}
 use Rattle.pieces.proofs.is_quiet.Tie as tie

@@ -2,7 +2,8 @@
 use mathlib.Core.Path.{_≡_, _∙_}
 use borrow.Author.Needs.{needs}
 use Rattle.octets.specs.Bytes.{every, oneOf, isSpace, isVisible, between}
-use Rattle.pieces.specs.Classes.{mayStand, isPlain, isRun}
+use Rattle.pieces.specs.Classes.{mayStand, isPlain}
+use Rattle.pieces.specs.WorkingClasses.{isRun}
 use Rattle.pieces.proofs.Inside.{run-rest}
 use Rattle.pieces.proofs.is_run.Statement.{statement}
 use Rattle.pieces.proofs.is_run.Tie as tie

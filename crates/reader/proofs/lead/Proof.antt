@@ -43,7 +43,7 @@ use denote.Triple.Walked.{says, Stays, stay-none, walkOf, goes-none, Walks, ends
 use denote.Exit.{yes}
 use denote.Triple.Clauses.{ensured, lasts}
 use Rattle.markup.specs.Document.{leadAt}
-use Rattle.reader.specs.Position.{reached}
+use Rattle.reader.specs.WorkingPosition.{reached}
 use Rattle.reader.specs.declared.Reader.{Reader}
 use Rattle.reader.proofs.Reader as T
 use Rattle.reader.proofs.Reader.Laws as T′

@@ -4,7 +4,7 @@ use denote.Ref.{now}
 use borrow.Author.Needs.{needs}
 use Rattle.pieces.specs.declared.End.the-variants.{At, No}
 use Rattle.markup.specs.Document.{declarationAt, miscAt, led, leadAt}
-use Rattle.reader.specs.Position.{reached}
+use Rattle.reader.specs.WorkingPosition.{reached}
 use Rattle.reader.proofs.lead_at.Statement.{statement}
 use Rattle.reader.proofs.lead_at.Tie as tie
 

@@ -5,7 +5,7 @@ use mathlib.Core.List.{List}
 use denote.Ref.{now}
 use borrow.Author.Needs.{needs}
 use Rattle.octets.specs.Text.{bytes}
-use Rattle.words.specs.Words.{wordsOf}
+use Rattle.words.specs.WorkingWords.{wordsOf}
 use Rattle.words.proofs.Choices.{chosen, alike}
 use Rattle.reads.specs.Names.{Row, among, inAlert, infoInside}
 use Rattle.reads.specs.declared.Context.the-variants.{AlertLeaf, Skipped}

@@ -6,9 +6,9 @@ use denote.Ref.{now}
 use lib.ListN.{getD, List·getD-eq-default}
 use borrow.Author.Needs.{needs}
 use Rattle.octets.specs.Text.{bytes}
-use Rattle.words.specs.Words.{wordsOf}
+use Rattle.words.specs.WorkingWords.{wordsOf}
 use Rattle.words.proofs.Choices.{chosen, alike}
-use Rattle.reads.specs.Steps.{audioOf}
+use Rattle.reads.specs.WorkingSteps.{audioOf}
 use Rattle.reads.proofs.audio_of.Statement.{statement}
 use Rattle.reads.proofs.audio_of.Tie as tie
 

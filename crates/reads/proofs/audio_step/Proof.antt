@@ -7,8 +7,8 @@ use borrow.Author.Tests.{not-true, not-false, eq-eqb, ne-eqb}
 use borrow.Author.Needs.{needs}
 use Rattle.octets.specs.Bytes.{pick}
 use Rattle.octets.proofs.Tests.{between-is, below-between, above-between}
-use Rattle.reads.specs.Leaves.{soundOf}
-use Rattle.reads.specs.Steps.{audioOf, isAudio, audioStep}
+use Rattle.reads.specs.WorkingLeaves.{soundOf}
+use Rattle.reads.specs.WorkingSteps.{audioOf, isAudio, audioStep}
 use Rattle.reads.proofs.audio_step.Statement.{statement}
 use Rattle.reads.proofs.audio_step.Tie as tie
 

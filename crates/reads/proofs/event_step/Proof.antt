@@ -4,8 +4,8 @@ use mathlib.Core.Bool.{true}
 use borrow.Author.Tests.{not-true, not-false}
 use borrow.Author.Needs.{needs}
 use Rattle.octets.specs.Text.{bytes}
-use Rattle.reads.specs.Leaves.{pairOk}
-use Rattle.reads.specs.Steps.{eventStep}
+use Rattle.reads.specs.WorkingLeaves.{pairOk}
+use Rattle.reads.specs.WorkingSteps.{eventStep}
 use Rattle.reads.proofs.event_step.Statement.{statement}
 use Rattle.reads.proofs.event_step.Tie as tie
 

@@ -5,7 +5,7 @@ use denote.Ref.{now}
 use native.Mathlib.Omega.{arith}
 use borrow.Author.Needs.{needs}
 use Rattle.octets.specs.Text.{bytes}
-use Rattle.words.specs.Words.{wordsOf}
+use Rattle.words.specs.WorkingWords.{wordsOf}
 use Rattle.words.proofs.Choices.{chosen, alike}
 use Rattle.reads.specs.Names.{among, inInfo}
 use Rattle.reads.specs.declared.Context.the-variants.{InfoLeaf, Skipped}

@@ -1,7 +1,7 @@
 -- The language is the first leaf, and the tests are asked in their order.
 use mathlib.Core.Path.{sym, _∙_}
 use borrow.Author.Needs.{needs}
-use Rattle.reads.specs.Steps.{infoStep}
+use Rattle.reads.specs.WorkingSteps.{infoStep}
 use Rattle.reads.proofs.info_step.Statement.{statement}
 use Rattle.reads.proofs.info_step.Tie as tie
 

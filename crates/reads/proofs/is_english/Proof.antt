@@ -2,7 +2,7 @@
 use mathlib.Core.Path.{sym, _∙_}
 use borrow.Author.Needs.{needs}
 use Rattle.octets.specs.Text.{bytes}
-use Rattle.reads.specs.Steps.{english}
+use Rattle.reads.specs.WorkingSteps.{english}
 use Rattle.reads.proofs.is_english.Statement.{statement}
 use Rattle.reads.proofs.is_english.Tie as tie
 

@@ -6,7 +6,7 @@ use borrow.Author.Tests.{eq-eqb, ne-eqb, not-true, not-false}
 use borrow.Author.Needs.{needs}
 use Rattle.octets.specs.Bytes.{every}
 use Rattle.octets.proofs.Tests.{one-fails}
-use Rattle.reads.specs.Leaves.{pairOk}
+use Rattle.reads.specs.WorkingLeaves.{pairOk}
 use Rattle.reads.proofs.is_pair.Statement.{statement}
 use Rattle.reads.proofs.is_pair.Tie as tie
 

@@ -5,7 +5,7 @@ use mathlib.Core.Bool.{and-true}
 use borrow.Author.Tests.{le-leb, lt-leb}
 use Rattle.octets.specs.Bytes.{every}
 use Rattle.octets.proofs.Tests.{one-fails}
-use Rattle.reads.specs.Leaves.{soundOf}
+use Rattle.reads.specs.WorkingLeaves.{soundOf}
 use Rattle.reads.proofs.is_sound.Statement.{statement}
 use Rattle.reads.proofs.is_sound.Tie as tie
 

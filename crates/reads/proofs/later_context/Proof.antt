@@ -4,7 +4,7 @@ use mathlib.Core.Path.{_≡_, refl, sym, _∙_}
 use denote.Ref.{now}
 use borrow.Author.Needs.{needs}
 use Rattle.octets.specs.Text.{bytes}
-use Rattle.words.specs.Words.{wordsOf}
+use Rattle.words.specs.WorkingWords.{wordsOf}
 use Rattle.words.proofs.Choices.{chosen}
 use Rattle.reads.specs.Names.{among, inLater}
 use Rattle.reads.specs.declared.Context.the-variants.{Skipped}

@@ -1,6 +1,6 @@
 -- The language is the first leaf.
 use borrow.Author.Needs.{needs}
-use Rattle.reads.specs.Steps.{laterStep}
+use Rattle.reads.specs.WorkingSteps.{laterStep}
 use Rattle.reads.proofs.later_step.Statement.{statement}
 use Rattle.reads.proofs.later_step.Tie as tie
 

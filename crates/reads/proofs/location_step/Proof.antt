@@ -5,8 +5,8 @@ use denote.Ref.{now}
 use borrow.Author.Tests.{not-true, not-false}
 use borrow.Author.Needs.{needs}
 use Rattle.octets.specs.Text.{bytes}
-use Rattle.reads.specs.Leaves.{pairOk}
-use Rattle.reads.specs.Steps.{locationStep, says}
+use Rattle.reads.specs.WorkingLeaves.{pairOk}
+use Rattle.reads.specs.WorkingSteps.{locationStep, says}
 use Rattle.reads.proofs.location_step.Statement.{statement}
 use Rattle.reads.proofs.location_step.Tie as tie
 

@@ -8,12 +8,12 @@ use lib.ListN.{getD, List·getD-eq-default}
 use borrow.Author.Tests.{not-true, not-false}
 use borrow.Author.Needs.{needs}
 use Rattle.octets.specs.Text.{bytes}
-use Rattle.words.specs.Words.{wordsOf}
+use Rattle.words.specs.WorkingWords.{wordsOf}
 use Rattle.words.proofs.Choices.{chosen}
 use Rattle.reads.specs.declared.Leaf.{Leaf}
 use Rattle.reads.specs.declared.Parameters.{Parameters}
-use Rattle.reads.specs.Leaves.{found, pairOk}
-use Rattle.reads.specs.Steps.{parameterStep}
+use Rattle.reads.specs.WorkingLeaves.{found, pairOk}
+use Rattle.reads.specs.WorkingSteps.{parameterStep}
 use Rattle.reads.proofs.parameter_step.Statement.{statement}
 use Rattle.reads.proofs.parameter_step.Tie as tie
 

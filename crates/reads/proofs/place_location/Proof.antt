@@ -1,7 +1,7 @@
 -- Behind 31 places nothing is added; else the place is the next one.
 use borrow.Author.Tests.{le-leb, lt-leb}
 use borrow.Author.Needs.{needs}
-use Rattle.reads.specs.Steps.{placed}
+use Rattle.reads.specs.WorkingSteps.{placed}
 use Rattle.reads.proofs.place_location.Statement.{statement}
 use Rattle.reads.proofs.place_location.Tie as tie
 

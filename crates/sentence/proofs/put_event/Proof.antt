@@ -5,7 +5,7 @@ use mathlib.Core.Path.{_≡_, refl, sym, ap, _∙_}
 use native.Mathlib.Omega.{arith}
 use lib.ListN.{length, getD, List·getD-eq-default}
 use Rattle.octets.specs.Text.{bytes}
-use Rattle.words.specs.Words.{wordsOf}
+use Rattle.words.specs.WorkingWords.{wordsOf}
 use Rattle.words.proofs.Choices.{chosen, alike}
 use Rattle.sentence.proofs.Lengths.{event-le}
 use Rattle.sentence.proofs.Puts.{first, next, put-all}

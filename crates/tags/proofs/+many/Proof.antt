@@ -11,7 +11,7 @@ use borrow.Fn.PlainCycle.{Measures, is, falls, and}
 use Rattle.pieces.proofs.Walks.{walk-stops, walk-stuck}
 use Rattle.tags.specs.Attributes.{attrAt}
 use Rattle.tags.specs.Tags.{taken, takeAt}
-use Rattle.tags.specs.Seen.{nodes}
+use Rattle.tags.specs.WorkingTree.{nodes}
 use Rattle.tags.specs.declared.Attr.the-variants.{Of, Last, None}
 use Rattle.tags.proofs.Goes.{Read, attr-read, take-goes}
 use Rattle.tags.proofs.Trees.{tree-full}

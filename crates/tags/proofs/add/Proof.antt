@@ -5,7 +5,7 @@ use native.Mathlib.Omega.{arith}
 use denote.Ref.{now}
 use Rattle.octets.specs.Bytes.{part}
 use Rattle.pieces.specs.declared.End.the-variants.{At}
-use Rattle.tags.specs.Seen.{way}
+use Rattle.tags.specs.WorkingTree.{way}
 use Rattle.tags.proofs.Trees.{Slot, free-slot, tree-full}
 use borrow.Author.Needs.{needs}
 use Rattle.tags.proofs.add.Statement.{statement}

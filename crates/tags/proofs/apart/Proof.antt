@@ -7,7 +7,7 @@ use lib.ListN.{length}
 use borrow.Author.Needs.{needs}
 use Rattle.pieces.specs.declared.Step.the-variants.{Go, Stop, Stuck}
 use Rattle.pieces.proofs.Walks.{Walking, walk-starts, step-on, walk-moves, walk-stops, walk-stuck}
-use Rattle.tags.specs.Seen.{lookAt}
+use Rattle.tags.specs.WorkingTree.{lookAt}
 use Rattle.tags.proofs.Goes.{look-goes}
 use Rattle.tags.proofs.apart.Statement.{statement}
 use Rattle.tags.proofs.apart.Tie as tie

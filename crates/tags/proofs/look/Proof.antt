@@ -3,7 +3,7 @@ use mathlib.Core.Path.{_≡_, sym, _∙_}
 use native.Mathlib.Omega.{arith}
 use denote.Ref.{now}
 use Rattle.tags.specs.Attributes.{attrAt}
-use Rattle.tags.specs.Seen.{apart, looked, lookAt}
+use Rattle.tags.specs.WorkingTree.{apart, looked, lookAt}
 use Rattle.tags.specs.declared.Attr.the-variants.{Of, Last, None}
 use Rattle.tags.proofs.Goes.{Read, attr-read}
 use borrow.Author.Needs.{needs}

@@ -7,7 +7,7 @@ use lib.ListN.{getD}
 use borrow.Author.Needs.{needs}
 use Rattle.octets.specs.Bytes.{same}
 use Rattle.pieces.specs.declared.End.the-variants.{At}
-use Rattle.tags.specs.Seen.{nodes, turnOf, cellOf, nameOf}
+use Rattle.tags.specs.WorkingTree.{nodes, turnOf, cellOf, nameOf}
 use Rattle.tags.proofs.Trees.{turn-small, OnWay, way-starts, way-met, way-ends, way-moves}
 use Rattle.tags.proofs.place.Statement.{statement}
 use Rattle.tags.proofs.place.Tie as tie

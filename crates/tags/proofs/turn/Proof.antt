@@ -1,5 +1,5 @@
 -- A shift divides by a power of 2.
-use Rattle.tags.specs.Seen.{turnOf}
+use Rattle.tags.specs.WorkingTree.{turnOf}
 use borrow.Author.Needs.{needs}
 use Rattle.tags.proofs.turn.Statement.{statement}
 use Rattle.tags.proofs.turn.Tie as tie

@@ -4,7 +4,8 @@ use mathlib.Core.Path.{refl, sym, _∙_}
 use native.Mathlib.Omega.{arith}
 use denote.Ref.{now}
 use borrow.Author.Needs.{needs}
-use Rattle.values.specs.Value.{valueAt, form}
+use Rattle.values.specs.Value.{valueAt}
+use Rattle.values.specs.WorkingSteps.{form}
 use lib.ListN.{length}
 use Rattle.values.proofs.Loops.{More, Matching, read-starts, read-more, read-done, match-more, match-differs, match-over, match-done}
 use Rattle.values.proofs.matches.Statement.{statement}

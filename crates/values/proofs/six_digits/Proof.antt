@@ -10,7 +10,8 @@ use lib.Seq.{sets}
 use Rattle.octets.specs.Bytes.{part}
 use Rattle.octets.specs.Digits.{numOf}
 use Rattle.octets.specs.declared.Num.the-variants.{Bad}
-use Rattle.values.specs.Value.{valueAt, sixDigits}
+use Rattle.values.specs.Value.{valueAt}
+use Rattle.values.specs.WorkingSteps.{sixDigits}
 use Rattle.values.proofs.Copies.{room, kept, whole}
 use borrow.Author.Needs.{needs}
 use Rattle.values.proofs.six_digits.Statement.{statement}

@@ -5,7 +5,7 @@ use mathlib.Core.Bool.{true}
 use native.Mathlib.Omega.{arith}
 use denote.Ref.{now}
 use Rattle.octets.specs.Bytes.{byteAt}
-use Rattle.values.specs.Value.{isMark}
+use Rattle.values.specs.WorkingSteps.{isMark}
 use Rattle.values.specs.declared.Got.the-variants.{Is}
 use Rattle.values.proofs.Steps.{mark-step, step-more}
 use borrow.Author.Needs.{needs}

@@ -2,7 +2,7 @@
 use Prim.Native.Nat.{_-_}
 use mathlib.Core.Path.{sym, ap, _∙_}
 use Rattle.wording.proofs.Allotments.{up-first, up-half, given-none, given-some}
-use Rattle.wording.specs.Given.{givenTo}
+use Rattle.wording.specs.WorkingGiven.{givenTo}
 use borrow.Author.Needs.{needs}
 use Rattle.wording.proofs.given.Statement.{statement}
 use Rattle.wording.proofs.given.Tie as tie

@@ -8,7 +8,7 @@ use Rattle.sentence.proofs.Puts.{first, next, put-all}
 use Rattle.values.specs.Value.{valueAt}
 use Rattle.wording.proofs.Allotments.{given-ge, description-room, parts-short, instruction-begins, instruction-fair, instruction-room}
 use Rattle.wording.proofs.Cuts.{part, part-none}
-use Rattle.wording.specs.Given.{givenTo}
+use Rattle.wording.specs.WorkingGiven.{givenTo}
 use borrow.Author.Needs.{needs}
 use Rattle.wording.proofs.put_parts.Statement.{statement}
 use Rattle.wording.proofs.put_parts.Tie as tie

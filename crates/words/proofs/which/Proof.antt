@@ -6,7 +6,7 @@ use native.Mathlib.Nat.{zero-add}
 use native.Mathlib.Omega.{arith}
 use lib.ListN.{length}
 use borrow.Author.Needs.{needs}
-use Rattle.words.specs.Words.{wordsOf, whichOf}
+use Rattle.words.specs.WorkingWords.{wordsOf, whichOf}
 use Rattle.words.proofs.Tables.{left}
 use Rattle.words.proofs.Places.{over, cut, hit, miss, other}
 use Rattle.words.proofs.which.Statement.{statement}

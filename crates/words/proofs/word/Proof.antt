@@ -5,7 +5,7 @@ use Prim.Native.Nat.{_-_, _≤_}
 use native.Mathlib.Omega.{arith}
 use lib.ListN.{length, drop, getD}
 use borrow.Author.Needs.{needs}
-use Rattle.words.specs.Words.{wordsOf}
+use Rattle.words.specs.WorkingWords.{wordsOf}
 use Rattle.words.proofs.Tables.{left}
 use Rattle.words.proofs.Places.{none-over, none-cut, this, behind}
 use Rattle.words.proofs.word.Statement.{statement}

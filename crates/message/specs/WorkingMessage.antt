@@ -7,14 +7,14 @@ use Rattle.octets.specs.Bytes.{pick, between}
 use Rattle.clock.specs.Time.{instantIn}
 use Rattle.markup.specs.Tree.{One, one, none}
 use Rattle.markup.specs.Document.{docAt}
-use Rattle.reads.specs.Leaves.{fresh, sentLeaf}
+use Rattle.reads.specs.WorkingLeaves.{fresh, sentLeaf}
 use Rattle.reads.specs.declared.Alert.{Alert}
 use Rattle.reads.specs.declared.Context.{Context}
 use Rattle.reads.specs.declared.Context.the-variants.{Root, Skipped}
-use Rattle.gather.specs.Read.{alertOf}
+use Rattle.gather.specs.WorkingRead.{alertOf}
 use Rattle.fields.specs.declared.MsgType.{MsgType}
 use Rattle.message.specs.Root.{prefixOf, rootOk}
-use Rattle.message.specs.Judged.{timed, msgTypeOf, fieldOf, numberOf}
+use Rattle.message.specs.WorkingJudged.{timed, msgTypeOf, fieldOf, numberOf}
 use Rattle.message.specs.declared.Message.{Message}
 
 -- a refusal returns its number, zeros elsewhere

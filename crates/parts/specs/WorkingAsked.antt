@@ -3,19 +3,14 @@ use Prim.Native.Nat.{ℕ, zero, suc, _+_, _*_, _/_}
 use mathlib.Core.Bool.{Bool, true, false}
 use mathlib.Core.List.{List, [], _∷_, _++_}
 use lib.ListN.{length}
-use lib.Seq.{sets}
 use lib.Dec.{leb, eqb}
 use Rattle.octets.specs.Bytes.{pick, part, every, holds}
 use Rattle.octets.specs.Digits.{allDigits, value, digits}
 use Rattle.parts.specs.Originator.{isKnown, known, numbered}
-use Rattle.parts.specs.Parts.{noLocations, noBody, noStation}
+use Rattle.parts.specs.Parts.{noLocations, noBody, noStation, padded}
 use Rattle.parts.specs.declared.Locations.{Locations}
 use Rattle.parts.specs.declared.Body.{Body}
 use Rattle.parts.specs.declared.Parts.{Parts}
-
--- the locations with zeros behind them
-abbrev pub padded : List ℕ → List ℕ
-padded ps = sets noLocations 0 ps
 
 -- six digits for each location, one behind the other
 unfoldable pub sixesBytes : List ℕ → List ℕ

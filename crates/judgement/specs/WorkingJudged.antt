@@ -12,9 +12,9 @@ use Rattle.parts.specs.Parts.{noBody}
 use Rattle.parts.specs.declared.Originator.{Originator}
 use Rattle.parts.specs.declared.Body.{Body}
 use Rattle.reads.specs.declared.Locations.{Locations}
-use Rattle.message.specs.Message.{messageOf}
+use Rattle.message.specs.WorkingMessage.{messageOf}
 use Rattle.message.specs.declared.Message.{Message}
-use Rattle.judgement.specs.Rules.{infoIn, expiresIn, eventIs, originOf, located, secondsTo, quietOf}
+use Rattle.judgement.specs.WorkingRules.{infoIn, expiresIn, eventIs, originOf, located, secondsTo, quietOf}
 use Rattle.judgement.specs.declared.Judged.{Judged}
 
 -- a message that gives no header: refused, or a quiet Cancel, which answers 0

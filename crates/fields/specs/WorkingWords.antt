@@ -4,7 +4,7 @@ use mathlib.Core.List.{List}
 use lib.ListN.{length}
 use lib.Dec.{eqb}
 use Rattle.octets.specs.Bytes.{pick, oneOf}
-use Rattle.values.specs.Value.{restAt, stepAt}
+use Rattle.values.specs.WorkingSteps.{restAt, stepAt}
 use Rattle.values.specs.declared.Got.{Got}
 use Rattle.values.specs.declared.Got.the-variants.{Is, Done}
 use Rattle.fields.specs.References.{upTo}

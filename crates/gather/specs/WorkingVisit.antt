@@ -7,9 +7,9 @@ use Rattle.octets.specs.Bytes.{pick}
 use Rattle.pieces.specs.declared.End.{End}
 use Rattle.pieces.specs.declared.End.the-variants.{At, No}
 use Rattle.markup.specs.Tree.{Tag, Forest, nil, text, elem, One, one, none, Held, held, bad}
-use Rattle.reads.specs.Leaves.{blank, marked, found, noInfo, fresh}
+use Rattle.reads.specs.WorkingLeaves.{blank, marked, found, noInfo, fresh}
 use Rattle.reads.specs.Names.{contextOf}
-use Rattle.reads.specs.Steps.{eventStep, parameterStep, locationStep, audioStep, infoStep, laterStep}
+use Rattle.reads.specs.WorkingSteps.{eventStep, parameterStep, locationStep, audioStep, infoStep, laterStep}
 use Rattle.reads.specs.declared.Leaf.{Leaf}
 use Rattle.reads.specs.declared.Info.{Info}
 use Rattle.reads.specs.declared.Alert.{Alert}

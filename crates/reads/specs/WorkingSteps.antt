@@ -8,7 +8,8 @@ use Rattle.octets.specs.Bytes.{pick, between, same}
 use Rattle.octets.specs.Text.{bytes}
 use Rattle.octets.specs.declared.Num.{Num}
 use Rattle.octets.specs.declared.Num.the-variants.{Value, Bad}
-use Rattle.values.specs.Value.{valueAt, small, sixDigits}
+use Rattle.values.specs.Value.{valueAt, small}
+use Rattle.values.specs.WorkingSteps.{sixDigits}
 use Rattle.reads.specs.declared.Leaf.{Leaf}
 use Rattle.reads.specs.declared.Events.{Events}
 use Rattle.reads.specs.declared.Parameters.{Parameters}
@@ -18,7 +19,7 @@ use Rattle.reads.specs.declared.Info.{Info}
 use Rattle.reads.specs.declared.Alert.{Alert}
 use Rattle.reads.specs.declared.Kept.{Kept}
 use Rattle.reads.specs.declared.Kept.the-variants.{Nothing, First, Selected}
-use Rattle.reads.specs.Leaves.{found, soundOf, pairOk, languageLeaf}
+use Rattle.reads.specs.WorkingLeaves.{found, soundOf, pairOk, languageLeaf}
 
 -- the value at n is this text
 abbrev pub says : List ℕ → ℕ → List ℕ → Bool

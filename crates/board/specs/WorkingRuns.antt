@@ -7,9 +7,10 @@ use lib.Dec.{eqb}
 use lib.ListN.{getD}
 use Rattle.octets.specs.Bytes.{pick}
 use Rattle.ledger.specs.Sorted.{In}
-use Rattle.ledger.specs.Board.{carried, Alert, records, Call, offered, handedOut}
-use Rattle.board.specs.Rules.{Records, boardOf, boardOk}
-use Rattle.board.specs.Calls.{offerOf, handOf}
+use Rattle.ledger.specs.WorkingBoard.{carried, Alert, records, Call, offered, handedOut}
+use Rattle.board.specs.WorkingRules.{Records, boardOk}
+use Rattle.board.specs.Rules.{boardOf}
+use Rattle.board.specs.WorkingCalls.{offerOf, handOf}
 
 -- a board that keeps the rules and has no filled record
 pub record Empty (s : List ℕ) : Type 0 where

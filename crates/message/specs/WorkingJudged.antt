@@ -8,14 +8,15 @@ use Rattle.octets.specs.Bytes.{pick, every, holds}
 use Rattle.clock.specs.Time.{timeOf, isTime}
 use Rattle.clock.specs.declared.Time.{Time}
 use Rattle.values.specs.Value.{valueAt}
-use Rattle.reads.specs.Leaves.{soundOf, identifierLeaf, senderLeaf, sentLeaf, statusLeaf, msgTypeLeaf, scopeLeaf, referencesLeaf, expiresLeaf, senderNameLeaf, descriptionLeaf, instructionLeaf}
+use Rattle.reads.specs.WorkingLeaves.{soundOf, identifierLeaf, senderLeaf, sentLeaf, statusLeaf, msgTypeLeaf, scopeLeaf, referencesLeaf, expiresLeaf, senderNameLeaf, descriptionLeaf, instructionLeaf}
 use Rattle.reads.specs.declared.Leaf.{Leaf}
 use Rattle.reads.specs.declared.Info.{Info}
 use Rattle.reads.specs.declared.Alert.{Alert}
-use Rattle.fields.specs.Fields.{identityOk, indexIn, statuses, scopes, msgTypeIn}
-use Rattle.fields.specs.References.{referencesOk}
+use Rattle.fields.specs.Fields.{identityOk}
+use Rattle.fields.specs.WorkingFields.{indexIn, statuses, scopes, msgTypeIn}
+use Rattle.fields.specs.WorkingFields.{referencesOk}
 use Rattle.fields.specs.declared.MsgType.{MsgType}
-use Rattle.faults.specs.Field.{lowest}
+use Rattle.faults.specs.WorkingField.{lowest}
 
 -- exactly once, and holding no element
 unfoldable pub onlyOf : Leaf → Bool

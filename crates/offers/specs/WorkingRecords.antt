@@ -7,13 +7,13 @@ use Rattle.clock.specs.Time.{timeOf, instantIn}
 use Rattle.header.specs.Body.{bodyBytes}
 use Rattle.values.specs.Value.{valueAt}
 use Rattle.fields.specs.References.{senderOf, identifierOf, sentOf, words}
-use Rattle.reads.specs.Leaves.{identifierLeaf, senderLeaf, referencesLeaf}
-use Rattle.message.specs.Judged.{asksReferences}
+use Rattle.reads.specs.WorkingLeaves.{identifierLeaf, senderLeaf, referencesLeaf}
+use Rattle.message.specs.WorkingJudged.{asksReferences}
 use Rattle.message.specs.declared.Message.{Message}
-use Rattle.judgement.specs.Judged.{judgedOf}
+use Rattle.judgement.specs.WorkingJudged.{judgedOf}
 use Rattle.judgement.specs.declared.Judged.{Judged}
 use Rattle.records.specs.Record.{pad, keyOf}
-use Rattle.ledger.specs.Board.{Alert, records}
+use Rattle.ledger.specs.WorkingBoard.{Alert, records}
 
 abbrev pub ownIdentifier : List ℕ → Message → List ℕ
 ownIdentifier s m = valueAt s (identifierLeaf (m .alert) .at)

@@ -12,12 +12,12 @@ use Rattle.parts.specs.Parts.{eventOk}
 use Rattle.parts.specs.declared.Originator.the-variants.{Civ}
 use Rattle.parts.specs.declared.Origin.{Origin}
 use Rattle.parts.specs.declared.Origin.the-variants.{Known}
-use Rattle.reads.specs.Leaves.{expiresLeaf}
-use Rattle.reads.specs.Steps.{isNothing}
+use Rattle.reads.specs.WorkingLeaves.{expiresLeaf}
+use Rattle.reads.specs.WorkingSteps.{isNothing}
 use Rattle.reads.specs.declared.Leaf.{Leaf}
 use Rattle.reads.specs.declared.Locations.{Locations}
 use Rattle.reads.specs.declared.Info.{Info}
-use Rattle.message.specs.Judged.{isCancel}
+use Rattle.message.specs.WorkingJudged.{isCancel}
 use Rattle.message.specs.declared.Message.{Message}
 use Rattle.judgement.specs.declared.Event.{Event}
 
