@@ -1,4 +1,4 @@
--- An offer of records, a hand-out and the list: all that each answers, and what it leaves in the lent bytes and rows.
+-- A hand-out and the list: all that each answers, and what it leaves in the lent bytes and rows.
 use Prim.Native.Nat.{ℕ}
 use mathlib.Core.List.{List}
 use Rattle.ledger.specs.declared.Row.{Row}

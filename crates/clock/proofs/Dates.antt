@@ -5,7 +5,7 @@ use native.Mathlib.Omega.{arith}
 use borrow.Author.Tests.{lt-ltb}
 use lib.IntN.{pos, +ℤ-idr}
 use Rattle.clock.specs.Calendar.{leap, monthDays, daysBefore, daysTo, dayNumber}
-use Rattle.clock.specs.Time.{span, since2000, utc, within}
+use Rattle.clock.specs.Time.{span, since2000, utc, inSpan}
 use Rattle.clock.specs.Stamp.{stampOf, instantOf}
 use Rattle.clock.specs.declared.Time.the-variants.{At}
 use Rattle.clock.proofs.Calendar.{day-in-year, days-to-low, days-to-2000}
@@ -28,9 +28,9 @@ module _ (y m d s : ℕ) (a : 2000 ≤ y) (b : y ≤ 2099) (h : 1 ≤ m) (k : m 
       ∙ minus ((daysTo y + daysBefore (leap y) m + (d - 1)) * 86400 + s) (daysTo 2000 * 86400) (omega (arith, days-to-2000))
       ∙ ap pos (omega (arith, days-to-2000))
 
-  pub shown : within (utc (since2000 (dayNumber y m d) s) (pos 0)) ≡ At (instantOf y ordinal s)
-  unfolding within
-  shown = ap within in-utc ∙ rw (lt-ltb (instantOf y ordinal s) span (came .inside))
+  pub shown : inSpan (utc (since2000 (dayNumber y m d) s) (pos 0)) ≡ At (instantOf y ordinal s)
+  unfolding inSpan
+  shown = ap inSpan in-utc ∙ rw (lt-ltb (instantOf y ordinal s) span (came .inside))
 
   pub shown-stamp : stampOf (instantOf y ordinal s) ≡ record { year = y; day = ordinal; hour = s / 3600; minute = s % 3600 / 60 }
   unfolding stampOf

@@ -18,7 +18,7 @@ use Rattle.octets.specs.Bytes.{every, holds, byteAt, part}
 use Rattle.octets.specs.declared.Num.the-variants.{Value}
 use Rattle.octets.proofs.Tests.{every-of, one-fails, picked, passed-over, either-way}
 use Rattle.clock.specs.Calendar.{daysTo}
-use Rattle.clock.specs.Time.{reads, dateTests, dateOf, minutesOf, secondTests, secondOf, zoneTests, signed, offset, since2000, localTime, utc, span, within, timeTests, timeOf, instantIn}
+use Rattle.clock.specs.Time.{reads, dateTests, dateOf, minutesOf, secondTests, secondOf, zoneTests, signed, offset, since2000, localTime, utc, span, inSpan, timeTests, timeOf, instantIn}
 use Rattle.clock.specs.declared.Time.{Time}
 use Rattle.clock.specs.declared.Time.the-variants.{At}
 use Rattle.clock.proofs.Calendar.{days-to-2000}
@@ -41,36 +41,36 @@ part-rest s at n h = take-all (length s - at) (drop at s) (rw length-drop (omega
 
 -- ---- in 2000 to 2099 or not: z′ is what the code compares
 
-pub within-before : (z z′ : ℤ) → z′ ≡ z → ltZ z′ (pos 0) ≡ true → within z ≡ Time.Bad
-unfolding within
+pub within-before : (z z′ : ℤ) → z′ ≡ z → ltZ z′ (pos 0) ≡ true → inSpan z ≡ Time.Bad
+unfolding inSpan
 within-before z z′ e h = before z (rw e at h)
   where
-    before : (z : ℤ) → ltZ z (pos 0) ≡ true → within z ≡ Time.Bad
+    before : (z : ℤ) → ltZ z (pos 0) ≡ true → inSpan z ≡ Time.Bad
     before (pos n) h = absurd (omega (arith, ltb-true n 0 h))
     before (negsuc n) h = refl
 
-pub within-after : (z z′ : ℤ) → z′ ≡ z → leZ (pos span) z′ ≡ true → within z ≡ Time.Bad
-unfolding within
+pub within-after : (z z′ : ℤ) → z′ ≡ z → leZ (pos span) z′ ≡ true → inSpan z ≡ Time.Bad
+unfolding inSpan
 within-after z z′ e h = after z (rw e at h)
   where
-    after : (z : ℤ) → leZ (pos span) z ≡ true → within z ≡ Time.Bad
+    after : (z : ℤ) → leZ (pos span) z ≡ true → inSpan z ≡ Time.Bad
     after (pos n) h = rw (le-ltb n span (leb-true span n h))
     after (negsuc n) h = refl
 
 pub record Inside (z : ℤ) : Type 0 where
   pub sign : T (nonNeg z)
   pub low : natAbs z < span
-  pub is : At (natAbs z) ≡ within z
+  pub is : At (natAbs z) ≡ inSpan z
 
 pub within-is : (z : ℤ) → ltZ z (pos 0) ≡ false → leZ (pos span) z ≡ false → Inside z
-unfolding within
+unfolding inSpan
 within-is (pos n) h k =
     let l : n < span = leb-false span n k in
     record { sign = tt; low = l; is = rw (lt-ltb n span l) }
 within-is (negsuc n) h k = let z : _≡_ {A = ℕ} 0 1 = cc in absurd (omega arith)
 
-within-low : (z : ℤ) → instantIn (within z) < span
-unfolding within
+within-low : (z : ℤ) → instantIn (inSpan z) < span
+unfolding inSpan
 within-low (pos m) = either-way (λ (x : Time). instantIn x < span) (ltb m span) _ _ (λ e. ltb-true m span e) (λ e. omega arith)
 within-low (negsuc m) = omega arith
 
@@ -118,7 +118,7 @@ module _ {t : List ℕ} {d s m : ℕ} (g : Parts t d s m) where
   pub utc-fits : (a z : ℤ) (b k : ℕ) → a ≡ since2000 d s → z ≡ signed b k → k ≤ 899 → (mag (toZ w64 (ofZ w64 a)) < 1000000000000) × (mag (toZ w64 (ofZ w64 z)) < 1000)
   utc-fits a z b k e f h = (rw (local-back a e) (omega (arith, local-most)), rw (signed-back z b k f h) (omega (arith, signed-most b k)))
 
-  time-yes : timeOf t ≡ within (utc (since2000 d s) (signed (byteAt t 19) m))
+  time-yes : timeOf t ≡ inSpan (utc (since2000 d s) (signed (byteAt t 19) m))
   unfolding timeOf
   time-yes =
       let p = read-is (dateTests t) (dateOf t) d (g .date-read) in
@@ -128,9 +128,9 @@ module _ {t : List ℕ} {d s m : ℕ} (g : Parts t d s m) where
       ∙ rw (p .1, q .1, r .1)
 
   -- the instant that the code has made of local time a and offset z
-  pub time-made : (a b z : ℤ) (x : Time) → a ≡ since2000 d s → z ≡ signed (byteAt t 19) m → b ≡ utc (toZ w64 (ofZ w64 a)) (toZ w64 (ofZ w64 z)) → x ≡ within (toZ w64 (ofZ w64 b)) → x ≡ timeOf t
+  pub time-made : (a b z : ℤ) (x : Time) → a ≡ since2000 d s → z ≡ signed (byteAt t 19) m → b ≡ utc (toZ w64 (ofZ w64 a)) (toZ w64 (ofZ w64 z)) → x ≡ inSpan (toZ w64 (ofZ w64 b)) → x ≡ timeOf t
   time-made a b z x e f i h =
       let u = utc (since2000 d s) (signed (byteAt t 19) m) in
       let j : b ≡ u = i ∙ ap₂ utc (local-back a e) (signed-back z (byteAt t 19) m f behind-most) in
       let k : toZ w64 (ofZ w64 b) ≡ u = rw j (back u (omega (arith, utc-most))) in
-      h ∙ ap within k ∙ sym time-yes
+      h ∙ ap inSpan k ∙ sym time-yes

@@ -12,29 +12,29 @@ use Rattle.clock.specs.declared.Time.{Time}
 use Rattle.clock.specs.declared.Time.the-variants.{At}
 
 -- a row of the table
-pub data Row : Type 0 where
-  seconds : ℕ → String → Row
-  sent : String → String → Row
-  noDate : String → Row
+pub data FigureRow : Type 0 where
+  seconds : ℕ → String → FigureRow
+  sent : String → String → FigureRow
+  noDate : String → FigureRow
 
 -- the JJJHHMM of a time, if it is one
-unfoldable pub written : Time → List ℕ
-written (At n) = stamped n
-written Time.Bad = []
+unfoldable pub stampWritten : Time → List ℕ
+stampWritten (At n) = stamped n
+stampWritten Time.Bad = []
 
 -- seconds n give TTTT; sent gives JJJHHMM; what is no date begins no time
-unfoldable pub Holds : Row → Type 0
-Holds (seconds n t) = tttt (periodOf n) ≡ bytes t
-Holds (sent t j) = written (timeOf (bytes t)) ≡ bytes j
-Holds (noDate d) = (rest : List ℕ) → timeOf (bytes d ++ rest) ≡ Time.Bad
+unfoldable pub FigureHolds : FigureRow → Type 0
+FigureHolds (seconds n t) = tttt (periodOf n) ≡ bytes t
+FigureHolds (sent t j) = stampWritten (timeOf (bytes t)) ≡ bytes j
+FigureHolds (noDate d) = (rest : List ℕ) → timeOf (bytes d ++ rest) ≡ Time.Bad
 
 -- the statement
-unfoldable pub All : List Row → Type 0
-All [] = Unit {0}
-All (r ∷ rs) = Holds r × All rs
+unfoldable pub AllFigures : List FigureRow → Type 0
+AllFigures [] = Unit {0}
+AllFigures (r ∷ rs) = FigureHolds r × AllFigures rs
 
 -- the table
-unfoldable pub figures : List Row
+unfoldable pub figures : List FigureRow
 figures =
     seconds 1 "0015"
     ∷ seconds 900 "0015"

@@ -100,9 +100,9 @@ abbrev pub span : ℕ
 span = 3155760000
 
 -- must lie in 2000 to 2099 UTC
-unfoldable pub within : ℤ → Time
-within (pos n) = pick (ltb n span) (At n) Time.Bad
-within (negsuc n) = Time.Bad
+unfoldable pub inSpan : ℤ → Time
+inSpan (pos n) = pick (ltb n span) (At n) Time.Bad
+inSpan (negsuc n) = Time.Bad
 
 -- ---- the whole
 
@@ -112,7 +112,7 @@ timeTests t = eqb (length t) 25 ∷ every holds (dateTests t) ∷ every holds (s
 
 -- the instant of a time
 unfoldable pub timeOf : List ℕ → Time
-timeOf t = pick (every holds (timeTests t)) (within (utc (localTime t) (offset t))) Time.Bad
+timeOf t = pick (every holds (timeTests t)) (inSpan (utc (localTime t) (offset t))) Time.Bad
 
 -- whether there is one
 abbrev pub isTime : Time → Bool

@@ -7,7 +7,7 @@ ghost use lib.ListN.{length};
 ghost use lib.Seq.{sets};
 ghost use lib.Signed.{mag};
 ghost use Rattle.clock.specs.Calendar.{leap, monthDays, daysBefore, daysTo};
-ghost use Rattle.clock.specs.Time.{reads, dateTests, dateOf, minutesTests, minutesOf, secondTests, secondOf, isSign, zoneTests, signed, since2000, utc, span, within, timeOf, isTime, instantIn};
+ghost use Rattle.clock.specs.Time.{reads, dateTests, dateOf, minutesTests, minutesOf, secondTests, secondOf, isSign, zoneTests, signed, since2000, utc, span, inSpan, timeOf, isTime, instantIn};
 ghost use Rattle.clock.specs.Period.{periodOf};
 ghost use Rattle.clock.specs.Stamp.{yearDayOf, stampOf};
 ghost use Rattle.clock.specs.Written.{tttt, jjjhhmm};
@@ -199,7 +199,7 @@ fn to_utc(local: i64, minutes: i64) -> i64
 
 // An instant of 2000 to 2099, or none.
 fn in_span(t: i64) -> Time
-    ensures { λ r. ⌜ r ≡ within t ⌝ }
+    ensures { λ r. ⌜ r ≡ inSpan t ⌝ }
 {
     if t < 0 {
         return Time::Bad;

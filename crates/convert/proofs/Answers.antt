@@ -15,7 +15,7 @@ use Rattle.header.proofs.Lengths.{length-header}
 use Rattle.sentence.specs.Words.{sentenceOf}
 use Rattle.sentence.proofs.Lengths.{sentence-le}
 use Rattle.wording.proofs.Texts.{text-le}
-use Rattle.message.specs.WorkingMessage.{messageOf}
+use Rattle.message.specs.WorkingMessage.{messageSays}
 use Rattle.leaves.proofs.Fits.{audio-number}
 use Rattle.judgement.specs.WorkingJudged.{judgedOf}
 use Rattle.judgement.specs.declared.Judged.{Judged}
@@ -72,7 +72,7 @@ module _ (s station : List ℕ) (h t u : ℕ) where
         number = omega arith;
         field = field-small s;
         header = omega (arith, length-header (record { body = j .body; station = station }) (r .body) (r .named), b .few);
-        audio = rw (message-kept s (messageOf s)) (audio-number s);
+        audio = rw (message-kept s (messageSays s)) (audio-number s);
         uri = r .fits;
         text = text-le (sentenceOf (j .body)) _ _ _ _ (omega (arith, sentence-le (j .body) (b .three) (b .few)));
       }

@@ -14,7 +14,7 @@ use Rattle.octets.proofs.Tests.{between-high}
 use Rattle.values.specs.Value.{valueAt}
 use Rattle.parts.specs.Parts.{stationOk}
 use Rattle.reads.specs.declared.Audio.{Audio}
-use Rattle.message.specs.WorkingMessage.{messageOf}
+use Rattle.message.specs.WorkingMessage.{messageSays}
 use Rattle.leaves.proofs.Fits.{audio-fits}
 use Rattle.judgement.specs.WorkingRules.{infoIn}
 use Rattle.judgement.specs.WorkingJudged.{judgedOf}
@@ -83,5 +83,5 @@ module _ (s station : List ℕ) (h t u : ℕ) where
         room = room;
         named = named;
         body = body-ok s (rw judged at e) (rw judged at q);
-        fits = rw (message-kept s (messageOf s)) (uri-fits s (infoIn (messageOf s) .audio) (audio-fits s));
+        fits = rw (message-kept s (messageSays s)) (uri-fits s (infoIn (messageSays s) .audio) (audio-fits s));
       })

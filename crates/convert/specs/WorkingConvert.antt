@@ -25,8 +25,8 @@ use Rattle.convert.specs.Convert.{Given, nothing, Outcome}
 -- ---- what an alert gives
 
 -- the header of the parts, for this station
-abbrev pub headerIn : List ℕ → Body → List ℕ
-headerIn station b = headerBytes (record { body = b; station = station })
+abbrev pub stationHeader : List ℕ → Body → List ℕ
+stationHeader station b = headerBytes (record { body = b; station = station })
 
 -- the sentence of the header's parts, the first EASText, senderName, description, instruction
 unfoldable pub textIn : List ℕ → Judged → List ℕ
@@ -45,7 +45,7 @@ carryIn s i = says s (i .parameters .carry .at) (bytes "True")
 -- a message that answers 0 and is not quiet
 unfoldable pub alertGiven : List ℕ → List ℕ → Judged → Given
 alertGiven s station j = record {
-  header = headerIn station (j .body);
+  header = stationHeader station (j .body);
   text = textIn s j;
   audio = infoIn (j .message) .audio .number;
   uri = uriIn s (infoIn (j .message) .audio);

@@ -9,7 +9,7 @@ ghost use Prim.Native.Nat.{_≤_};
 ghost use lib.ListN.{length};
 ghost use lib.Seq.{sets};
 ghost use Rattle.parts.specs.Parts.{bodyOk, stationOk};
-ghost use Rattle.convert.specs.WorkingConvert.{Ready, headerIn, textIn, uriIn, alertGiven, roomy, convertOf};
+ghost use Rattle.convert.specs.WorkingConvert.{Ready, stationHeader, textIn, uriIn, alertGiven, roomy, convertOf};
 ghost use Rattle.convert.specs.Convert.{nothing, answerOf};
 
 // What a conversion answers: the number and the field; how long header, uri and text are; audio (0 none, 1 mp3, 2 wav, 3 stream); must-carry.
@@ -55,8 +55,8 @@ fn put_header(station: &[u8], b: Body, out: &mut [u8]) -> usize
     requires { ⌜ stationOk (now station) ≡ true ⌝ }
     requires { ⌜ bodyOk b ≡ true ⌝ }
     requires { ⌜ 252 ≤ length (now out) ⌝ }
-    ensures { λ r. ⌜ r ≡ length (headerIn (now (station .entry)) b) ⌝ }
-    ensures { λ _. ⌜ now (out .exit) ≡ sets (now (out .entry)) 0 (headerIn (now (station .entry)) b) ⌝ }
+    ensures { λ r. ⌜ r ≡ length (stationHeader (now (station .entry)) b) ⌝ }
+    ensures { λ _. ⌜ now (out .exit) ≡ sets (now (out .entry)) 0 (stationHeader (now (station .entry)) b) ⌝ }
 {
     let named = parts::eight_at(station, 0);
     header::put_header(

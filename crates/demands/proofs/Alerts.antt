@@ -20,7 +20,7 @@ use Rattle.markup.specs.Document.{docAt}
 use Rattle.gather.specs.WorkingRead.{alertOf}
 use Rattle.reads.specs.WorkingLeaves.{referencesLeaf}
 use Rattle.message.specs.WorkingJudged.{statusOf, msgTypeOf, scopeOf, isAckOrError, asksReferences, isCancel, fieldOf, numberWith}
-use Rattle.message.specs.WorkingMessage.{refusedAs, judged, passed, ofRoot, messageOf}
+use Rattle.message.specs.WorkingMessage.{refusedAs, judged, judgedRoot, ofRoot, messageSays}
 use Rattle.message.specs.declared.Message.{Message}
 use Rattle.told.specs.Values.{is, isOne}
 use Rattle.demands.specs.Message.{prefixIn, contentIn, prefix, alert, status, msgType, scope, sentSeconds}
@@ -102,8 +102,8 @@ rooted s o =
     (refusedAs (length s) 5)
 
 module _ (s : List ℕ) where
-  message-is : messageOf s ≡ pick (between 1 32768 (length s)) (rooted s (docAt s)) (refusedAs (length s) 4)
-  unfolding messageOf ofRoot passed
+  message-is : messageSays s ≡ pick (between 1 32768 (length s)) (rooted s (docAt s)) (refusedAs (length s) 4)
+  unfolding messageSays ofRoot judgedRoot
   message-is = ap (λ (x : Message). pick (between 1 32768 (length s)) x (refusedAs (length s) 4)) (root-is (docAt s))
     where
       root-is : (o : One) → ofRoot s o ≡ rooted s o
@@ -111,14 +111,14 @@ module _ (s : List ℕ) where
       root-is none = refl
 
   -- what holds of each refusal and of what is said in an alert
-  message-holds : (P : Message → Type 0) → P (refusedAs (length s) 4) → P (refusedAs (length s) 5) → P (refusedAs (length s) 6) → P (said s) → P (messageOf s)
+  message-holds : (P : Message → Type 0) → P (refusedAs (length s) 4) → P (refusedAs (length s) 5) → P (refusedAs (length s) 6) → P (said s) → P (messageSays s)
   message-holds P four five six alert =
       rw message-is
       (either-way P (between 1 32768 (length s)) _ _
       (λ _. either-way P (isRead (docAt s)) _ _ (λ _. either-way P (rootIs s (docAt s)) _ _ (λ _. alert) (λ _. six)) (λ _. five))
       (λ _. four))
 
-  pub message-number : messageOf s .number ≡ lowestIn (messageRows s)
+  pub message-number : messageSays s .number ≡ lowestIn (messageRows s)
   message-number =
       let f : Message → ℕ = λ (m : Message). m .number in
       let rows = messageRows s in
@@ -127,15 +127,15 @@ module _ (s : List ℕ) where
       (at-pick f (isRead (docAt s)) _ _ ∙ held (isRead (docAt s)) 5 _ (drop 2 rows)
       (at-pick f (rootIs s (docAt s)) _ _ ∙ held (rootIs s (docAt s)) 6 _ (drop 3 rows) (said-number s)))
 
-  pub message-field : messageOf s .field ≡ fieldBeside (messageOf s .number) s
+  pub message-field : messageSays s .field ≡ fieldBeside (messageSays s .number) s
   message-field = message-holds (λ (m : Message). m .field ≡ fieldBeside (m .number) s) refl refl refl (said-field s)
 
-  pub message-said : messageOf s .number ≡ 0 → messageOf s ≡ said s
+  pub message-said : messageSays s .number ≡ 0 → messageSays s ≡ said s
   message-said =
       message-holds (λ (m : Message). m .number ≡ 0 → m ≡ said s)
       (λ e. absurd (omega arith)) (λ e. absurd (omega arith)) (λ e. absurd (omega arith)) (λ e. refl)
 
-  pub message-faultless : messageOf s .number ≡ 0 → Faultless s
+  pub message-faultless : messageSays s .number ≡ 0 → Faultless s
   unfolding every
   message-faultless e =
       let none = none-lowest (messageRows s) refl .0 (sym message-number ∙ e) in

@@ -31,7 +31,7 @@ module _ (s station : List ℕ) (h t u : ℕ) where
       either-way P (roomy h t u) _ _ (λ _. either-way P (parts.stationOk station) _ _ (λ _. judged) (λ _. three)) (λ _. two)
 
   convert-number : convertOf s station h t u .number ≡ lowestIn (conversionRows s station h t u)
-  unfolding convertOf outcomeOf roomy parts.stationOk parts.isStation
+  unfolding convertOf outcomeOf roomy parts.stationOk parts.isStationByte
   convert-number =
       let f : Outcome → ℕ = λ (o : Outcome). o .number in
       at-pick f (roomy h t u) _ _ ∙ held (roomy h t u) 2 _ (drop 1 (conversionRows s station h t u))
@@ -65,7 +65,7 @@ read-refused s =
 
 module _ (d : List ℕ) (p : Parts) where
   pub write-numbered : Numbered (library .writing d p .answer .number) (writeRows (length d) p)
-  unfolding every writeOf writeNumber lowestIn parts.stationOk parts.isStation
+  unfolding every writeOf writeNumber lowestIn parts.stationOk parts.isStationByte
   write-numbered =
       let rows = writeRows (length d) p in
       numbered _ rows refl

@@ -17,13 +17,13 @@ use Rattle.board.specs.Rules.{boardOf}
 use Rattle.board.specs.Calls as calls
 use Rattle.board.specs.WorkingCalls as working-calls
 use Rattle.board.specs.declared.Handed as board
-use Rattle.offers.specs.Offer.{Offering}
-use Rattle.offers.specs.WorkingOffer.{offerOf}
+use Rattle.offers.specs.Offer.{MessageOffering}
+use Rattle.offers.specs.WorkingOffer.{messageOffer}
 use Rattle.offers.specs.declared.Offered as offer
 use Rattle.told.specs.Values.{isNone}
 use Rattle.demands.specs.Calls.{library}
 use Rattle.demands.specs.Board.{dueHeaders}
-use Rattle.demands.specs.Numbers.{Row, row, lowestIn, Numbered, fieldBeside, takenRows, isBoard, emptiesIn, offerRows, handOutRows, listRows}
+use Rattle.demands.specs.Numbers.{NumberRow, row, lowestIn, Numbered, fieldBeside, takenRows, isBoard, emptiesIn, offerRows, handOutRows, listRows}
 use Rattle.demands.proofs.Messages.{judged-number, judged-field}
 use Rattle.demands.proofs.Rows.{lowest-append, numbered}
 use Rattle.demands.proofs.Outcomes.{newsOf, Offered, offered, offer-cases, Handed, handed, hand-out-cases, Listed, listed}
@@ -32,7 +32,7 @@ use Rattle.demands.proofs.Outcomes.{newsOf, Offered, offered, offer-cas
 
 module _ (b s : List ℕ) where
   -- 15, the last that it asks
-  abbrev last : List Row
+  abbrev last : List NumberRow
   last = row 15 (ltb (emptiesIn b) (newsOf b s)) ∷ []
 
   board-asked : (ok : Bool) → isBoard b ≡ ok → lowestIn (offerRows b s) ≡ lowestIn (row 1 (not ok) ∷ (takenRows s ++ last))
@@ -48,12 +48,12 @@ module _ (b s : List ℕ) where
 
   offer-number : Offered b s → library .offering b s .answer .number ≡ lowestIn (offerRows b s)
   unfolding lowestIn
-  offer-number (Offered.bad ok e) = ap (λ (o : Offering). o .answer .number) e ∙ sym (board-asked false ok)
+  offer-number (Offered.bad ok e) = ap (λ (o : MessageOffering). o .answer .number) e ∙ sym (board-asked false ok)
   offer-number (Offered.unfit ok n e) =
-      ap (λ (o : Offering). o .answer .number) e
+      ap (λ (o : MessageOffering). o .answer .number) e
       ∙ sym (message-asked (judgedOf s .number) ok refl ∙ passed-over (eqb (judgedOf s .number) 0) _ _ (ne-eqb (judgedOf s .number) 0 n))
   offer-number (Offered.full ok z l e) =
-      ap (λ (o : Offering). o .answer .number) e
+      ap (λ (o : MessageOffering). o .answer .number) e
       ∙ sym (message-asked 0 ok z ∙ ap (λ (t : Bool). lowestIn (row 15 t ∷ [])) (lt-ltb (emptiesIn b) (newsOf b s) l))
   offer-number (Offered.taken t) =
       ap (λ (a : offer.Offered). a .number) (t .answer)
@@ -66,14 +66,14 @@ module _ (b s : List ℕ) where
   pub offer-field : library .offering b s .answer .field ≡ fieldBeside (library .offering b s .answer .number) s
   offer-field = go (offered b s)
     where
-      go : Offered b s → offerOf b s .answer .field ≡ fieldBeside (offerOf b s .answer .number) s
+      go : Offered b s → messageOffer b s .answer .field ≡ fieldBeside (messageOffer b s .answer .number) s
       go (Offered.bad ok e) = rw e
       go (Offered.unfit ok n e) = rw e (judged-field s)
       go (Offered.full ok z l e) = rw e
       go (Offered.taken t) = rw (t .answer)
 
   pub offer-refused : (library .offering b s .answer .number ≡ 0 → ⊥) → (library .offering b s .answer .added ≡ 0) × (library .offering b s .bytes ≡ b)
-  offer-refused = offer-cases b s (λ (o : Offering). (o .answer .number ≡ 0 → ⊥) → (o .answer .added ≡ 0) × (o .bytes ≡ b))
+  offer-refused = offer-cases b s (λ (o : MessageOffering). (o .answer .number ≡ 0 → ⊥) → (o .answer .added ≡ 0) × (o .bytes ≡ b))
       (λ n f k r. (refl, refl))
       (λ t r. absurd (r (ap (λ (a : offer.Offered). a .number) (t .answer))))
 

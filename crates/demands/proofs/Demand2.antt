@@ -72,7 +72,7 @@ module _ (s station : List ℕ) (h t u : ℕ) where
       outcome : convertOf s station h t u ≡ outcomeOf s station (judgedOf s)
 
     passed : Passed
-    unfolding convertOf outcomeOf roomy parts.stationOk parts.isStation
+    unfolding convertOf outcomeOf roomy parts.stationOk parts.isStationByte
     passed =
         let rows = conversionRows s station h t u in
         let room : roomy h t u ≡ true = not-false _ (each-off 0 rows none) in

@@ -27,12 +27,12 @@ use Rattle.board.specs.Calls as calls
 use Rattle.board.specs.WorkingCalls as working-calls
 use Rattle.board.specs.WorkingRuns as board
 use Rattle.board.proofs.Demand3 as bytes
-use Rattle.offers.specs.Offer.{Offering}
-use Rattle.offers.specs.WorkingOffer.{offerOf}
+use Rattle.offers.specs.Offer.{MessageOffering}
+use Rattle.offers.specs.WorkingOffer.{messageOffer}
 use Rattle.demands.specs.Calls.{library}
 use Rattle.demands.specs.Board.{dueHeaders}
 use Rattle.demands.specs.Numbers.{noneApplies, takenRows, isBoard, emptiesIn}
-use Rattle.demands.specs.Runs.{Empty, afterOffers, NoneFull, CarriedBy, givenBy, handsFrom, Call, offers, handsOut, handedOut, Once}
+use Rattle.demands.specs.Runs.{Empty, afterOffers, NoneFull, CarriedBy, headerGiven, handOuts, BoardCall, offers, handsOut, handedOut, Once}
 use Rattle.demands.specs.Demands.{Demand3}
 use Rattle.demands.proofs.Demand2.{on-board}
 use Rattle.demands.proofs.BoardRules.{board-same}
@@ -59,7 +59,7 @@ same-records b b′ e e′ ms ms′ f g n n′ =
 
 offers-keep : (ms : List (List ℕ)) (b : List ℕ) → isBoard b ≡ true → isBoard (afterOffers library ms b) ≡ true
 offers-keep [] b ok = ok
-offers-keep (m ∷ ms) b ok = offers-keep ms (offerOf b m .bytes) (offer-keeps b m ok .0)
+offers-keep (m ∷ ms) b ok = offers-keep ms (messageOffer b m .bytes) (offer-keeps b m ok .0)
 
 due-exactly : (b : List ℕ) → Empty b → (ms : List (List ℕ)) → NoneFull library ms b → (h : List ℕ) →
     In h (dueHeaders (boardOf (afterOffers library ms b))) ↔ CarriedBy ms h
@@ -96,7 +96,7 @@ due-next b h hs e =
     all : ledger.hands cap (suc m) b ≡ take (suc m) (h ∷ hs)
     all = lists.in-order cap (suc m) b (omega arith) ∙ ap (take (suc m)) e
 
-hands : (n : ℕ) (b : List ℕ) → isBoard b ≡ true → handsFrom library n b ≡ take (min n (emptiesIn b)) (dueHeaders (boardOf b))
+hands : (n : ℕ) (b : List ℕ) → isBoard b ≡ true → handOuts library n b ≡ take (min n (emptiesIn b)) (dueHeaders (boardOf b))
 hands zero b ok = sym (ap (λ (k : ℕ). take k (dueHeaders (boardOf b))) (zero-min (emptiesIn b)))
 hands (suc n) b ok = go (handed b) (hands n)
   where
@@ -107,13 +107,13 @@ hands (suc n) b ok = go (handed b) (hands n)
     gave o = pick (eqb (o .answer .number) 0) (header (getD (boardOf b) (o .answer .index) []) ∷ []) []
 
     stays : (k : ℕ) → eqb k 0 ≡ false → working-calls.handOf b ≡ working-calls.handRefused k b →
-        givenBy library b ++ handsFrom library n (working-calls.handOf b .bytes) ≡ handsFrom library n b
+        headerGiven library b ++ handOuts library n (working-calls.handOf b .bytes) ≡ handOuts library n b
     stays k z e =
-        ap (λ (o : calls.Handing). gave o ++ handsFrom library n (o .bytes)) e
-        ∙ ap (λ (x : List (List ℕ)). x ++ handsFrom library n b) (passed-over (eqb k 0) _ [] z)
+        ap (λ (o : calls.Handing). gave o ++ handOuts library n (o .bytes)) e
+        ∙ ap (λ (x : List (List ℕ)). x ++ handOuts library n b) (passed-over (eqb k 0) _ [] z)
 
-    go : Handed b → ((x : List ℕ) → isBoard x ≡ true → handsFrom library n x ≡ take (min n (emptiesIn x)) (dueHeaders (boardOf x)))
-        → givenBy library b ++ handsFrom library n (working-calls.handOf b .bytes) ≡ take (min (suc n) (emptiesIn b)) d
+    go : Handed b → ((x : List ℕ) → isBoard x ≡ true → handOuts library n x ≡ take (min n (emptiesIn x)) (dueHeaders (boardOf x)))
+        → headerGiven library b ++ handOuts library n (working-calls.handOf b .bytes) ≡ take (min (suc n) (emptiesIn b)) d
     go (Handed.bad f e) ih = absurd (true≢false (sym ok ∙ f))
     go (Handed.nothing _ f e) ih = stays 16 refl e ∙ ih b ok ∙ none (min n (emptiesIn b)) ∙ sym (none (min (suc n) (emptiesIn b)))
       where
@@ -135,17 +135,17 @@ hands (suc n) b ok = go (handed b) (hands n)
         next : dueHeaders (boardOf b′) ≡ g .others
         next = sym (found-due b′ (g .left .keeps)) ∙ ap due (g .left .holds) ∙ due-next (boardOf b) (g .first) (g .others) (found-due b ok ∙ g .due-are)
 
-in-order : (b : List ℕ) → isBoard b ≡ true → (n : ℕ) → handsFrom library n b ≡ take (min n (emptiesIn b)) (dueHeaders (boardOf b))
+in-order : (b : List ℕ) → isBoard b ≡ true → (n : ℕ) → handOuts library n b ≡ take (min n (emptiesIn b)) (dueHeaders (boardOf b))
 in-order b ok n = hands n b ok
 
 -- ---- any mixture
 
-abbrev callsOf : List Call → List ledger.Call
+abbrev callsOf : List BoardCall → List ledger.Call
 callsOf [] = []
 callsOf (offers m ∷ cs) = pick (noneApplies (takenRows m)) (ledger.offered (alertOf m) ∷ callsOf cs) (callsOf cs)
 callsOf (handsOut ∷ cs) = ledger.handedOut ∷ callsOf cs
 
-call-records : (cs : List Call) → board.CallRecords (callsOf cs)
+call-records : (cs : List BoardCall) → board.CallRecords (callsOf cs)
 call-records [] = tt
 call-records (handsOut ∷ cs) = call-records cs
 call-records (offers m ∷ cs) = go (noneApplies (takenRows m)) refl (call-records cs)
@@ -155,22 +155,22 @@ call-records (offers m ∷ cs) = go (noneApplies (takenRows m)) refl (call-recor
     go true e r = (alert-records m e, r)
     go false e r = r
 
-handed-is : (cs : List Call) (b : List ℕ) → isBoard b ≡ true → handedOut library cs b ≡ board.givenOver (callsOf cs) b
+handed-is : (cs : List BoardCall) (b : List ℕ) → isBoard b ≡ true → handedOut library cs b ≡ board.givenOver (callsOf cs) b
 unfolding carried
 handed-is [] b ok = refl
-handed-is (handsOut ∷ cs) b ok = ap (λ (l : List (List ℕ)). givenBy library b ++ l) (handed-is cs (working-calls.handOf b .bytes) (hand-out-keeps b ok .0))
-handed-is (offers m ∷ cs) b ok = go (noneApplies (takenRows m)) refl (handed-is cs (offerOf b m .bytes) (offer-keeps b m ok .0))
+handed-is (handsOut ∷ cs) b ok = ap (λ (l : List (List ℕ)). headerGiven library b ++ l) (handed-is cs (working-calls.handOf b .bytes) (hand-out-keeps b ok .0))
+handed-is (offers m ∷ cs) b ok = go (noneApplies (takenRows m)) refl (handed-is cs (messageOffer b m .bytes) (offer-keeps b m ok .0))
   where
-    go : (t : Bool) → noneApplies (takenRows m) ≡ t → handedOut library cs (offerOf b m .bytes) ≡ board.givenOver (callsOf cs) (offerOf b m .bytes) →
-        handedOut library cs (offerOf b m .bytes) ≡ board.givenOver (pick t (ledger.offered (alertOf m) ∷ callsOf cs) (callsOf cs)) b
-    go true e h = h ∙ ap (λ (o : Offering). board.givenOver (callsOf cs) (o .bytes)) (taken-offer m e b)
+    go : (t : Bool) → noneApplies (takenRows m) ≡ t → handedOut library cs (messageOffer b m .bytes) ≡ board.givenOver (callsOf cs) (messageOffer b m .bytes) →
+        handedOut library cs (messageOffer b m .bytes) ≡ board.givenOver (pick t (ledger.offered (alertOf m) ∷ callsOf cs) (callsOf cs)) b
+    go true e h = h ∙ ap (λ (o : MessageOffering). board.givenOver (callsOf cs) (o .bytes)) (taken-offer m e b)
     go false e h = h ∙ ap (board.givenOver (callsOf cs)) (not-taken b m e)
 
 once-is : (l : List (List ℕ)) → ledger.Once l → Once l
 once-is [] o = tt
 once-is (h ∷ l) o = (o .0, once-is l (o .1))
 
-never-twice : (b : List ℕ) → Empty b → (cs : List Call) → Once (handedOut library cs b)
+never-twice : (b : List ℕ) → Empty b → (cs : List BoardCall) → Once (handedOut library cs b)
 never-twice b e cs =
     subst Once (sym (handed-is cs b (e .keeps))) (once-is (board.givenOver (callsOf cs) b) (bytes.once b (empty b e .keeps) (callsOf cs) (call-records cs)))
 

@@ -20,12 +20,12 @@ use Rattle.board.specs.Calls as calls
 use Rattle.board.specs.WorkingCalls as working-calls
 use Rattle.board.specs.declared.Handed as board
 use Rattle.board.proofs.Boards.{kept}
-use Rattle.offers.specs.Offer.{Offering}
-use Rattle.offers.specs.WorkingOffer.{offerOf}
+use Rattle.offers.specs.Offer.{MessageOffering}
+use Rattle.offers.specs.WorkingOffer.{messageOffer}
 use Rattle.offers.specs.declared.Offered as offer
-use Rattle.told.specs.Values.{firstOf}
+use Rattle.told.specs.Values.{firstValue}
 use Rattle.demands.specs.Calls.{library}
-use Rattle.demands.specs.Board.{messageRecords, dueHeaders, makesDue, indexOf, rowOf}
+use Rattle.demands.specs.Board.{messageRecords, dueHeaders, makesDue, firstIndex, rowOf}
 use Rattle.demands.specs.Numbers.{takenRows, isBoard}
 use Rattle.demands.specs.Runs.{Takes}
 use Rattle.demands.proofs.Messages.{judged-number}
@@ -41,17 +41,17 @@ takes-is m = let n = none-lowest (takenRows m) refl in (λ t. judged-number m �
 
 module _ (b m : List ℕ) where
   pub offer-keeps : isBoard b ≡ true → (isBoard (library .offering b m .bytes) ≡ true) × (length (library .offering b m .bytes) ≡ length b)
-  offer-keeps ok = offer-cases b m (λ (o : Offering). (isBoard (o .bytes) ≡ true) × (length (o .bytes) ≡ length b))
+  offer-keeps ok = offer-cases b m (λ (o : MessageOffering). (isBoard (o .bytes) ≡ true) × (length (o .bytes) ≡ length b))
       (λ n f k. (ok, refl))
       (λ t. (t .left .keeps, t .left .long))
 
   pub offer-adds : library .offering b m .answer .number ≡ 0 → boardOf (library .offering b m .bytes) ≡ insertAll (messageRecords m) (boardOf b)
-  offer-adds = offer-cases b m (λ (o : Offering). o .answer .number ≡ 0 → boardOf (o .bytes) ≡ insertAll (messageRecords m) (boardOf b))
+  offer-adds = offer-cases b m (λ (o : MessageOffering). o .answer .number ≡ 0 → boardOf (o .bytes) ≡ insertAll (messageRecords m) (boardOf b))
       (λ n f k z. absurd (k z))
       (λ t z. t .left .holds)
 
   pub added-is-growth : length (boardOf (library .offering b m .bytes)) ≡ length (boardOf b) + library .offering b m .answer .added
-  added-is-growth = offer-cases b m (λ (o : Offering). length (boardOf (o .bytes)) ≡ length (boardOf b) + o .answer .added)
+  added-is-growth = offer-cases b m (λ (o : MessageOffering). length (boardOf (o .bytes)) ≡ length (boardOf b) + o .answer .added)
       (λ n f k. sym (add-zero (length (boardOf b))))
       (λ t.
       ap length (t .left .holds)
@@ -60,14 +60,14 @@ module _ (b m : List ℕ) where
 
   pub taken-exactly : isBoard b ≡ true → (library .offering b m .answer .number ≡ 15 → ⊥) → (library .offering b m .answer .number ≡ 0) ↔ Takes m
   taken-exactly ok n = (
-    offer-cases b m (λ (o : Offering). o .answer .number ≡ 0 → Takes m) (λ n f k z. absurd (k z)) (λ t z. takes-is m .1 (t .judged)),
+    offer-cases b m (λ (o : MessageOffering). o .answer .number ≡ 0 → Takes m) (λ n f k z. absurd (k z)) (λ t z. takes-is m .1 (t .judged)),
     λ t. from t (offered b m),
   )
     where
-      from : Takes m → Offered b m → offerOf b m .answer .number ≡ 0
+      from : Takes m → Offered b m → messageOffer b m .answer .number ≡ 0
       from t (Offered.bad f e) = absurd (true≢false (sym ok ∙ f))
       from t (Offered.unfit _ k e) = absurd (k (takes-is m .0 t))
-      from t (Offered.full _ _ _ e) = absurd (n (ap (λ (o : Offering). o .answer .number) e))
+      from t (Offered.full _ _ _ e) = absurd (n (ap (λ (o : MessageOffering). o .answer .number) e))
       from t (Offered.taken x) = ap (λ (a : offer.Offered). a .number) (x .answer)
 
 -- ---- a hand-out
@@ -80,20 +80,20 @@ module _ (b : List ℕ) where
 
   -- the first due header
   abbrev first : List ℕ
-  first = firstOf (dueHeaders (boardOf b))
+  first = firstValue (dueHeaders (boardOf b))
 
-  pub hand-out-adds : library .handing b .answer .number ≡ 0 → boardOf (library .handing b .bytes) ≡ insert (aired (firstOf (dueHeaders (boardOf b)))) (boardOf b)
+  pub hand-out-adds : library .handing b .answer .number ≡ 0 → boardOf (library .handing b .bytes) ≡ insert (aired (firstValue (dueHeaders (boardOf b)))) (boardOf b)
   hand-out-adds = hand-out-cases b (λ (o : calls.Handing). o .answer .number ≡ 0 → boardOf (o .bytes) ≡ insert (aired first) (boardOf b))
       (λ n k z. absurd (k z))
-      (λ g z. g .left .holds ∙ ap (λ (d : List (List ℕ)). insert (aired (firstOf d)) (boardOf b)) (sym (g .due-are)))
+      (λ g z. g .left .holds ∙ ap (λ (d : List (List ℕ)). insert (aired (firstValue d)) (boardOf b)) (sym (g .due-are)))
 
   pub hand-out-index : library .handing b .answer .number ≡ 0 →
-      library .handing b .answer .index ≡ indexOf (makesDue (boardOf b) (firstOf (dueHeaders (boardOf b)))) (boardOf b)
-  hand-out-index = hand-out-cases b (λ (o : calls.Handing). o .answer .number ≡ 0 → o .answer .index ≡ indexOf (makesDue (boardOf b) first) (boardOf b))
+      library .handing b .answer .index ≡ firstIndex (makesDue (boardOf b) (firstValue (dueHeaders (boardOf b)))) (boardOf b)
+  hand-out-index = hand-out-cases b (λ (o : calls.Handing). o .answer .number ≡ 0 → o .answer .index ≡ firstIndex (makesDue (boardOf b) first) (boardOf b))
       (λ n k z. absurd (k z))
       (λ g z.
       ap (λ (a : board.Handed). a .index) (g .answer)
-      ∙ ap (λ (d : List (List ℕ)). indexOf (makesDue (boardOf b) (firstOf d)) (boardOf b)) (sym (g .due-are)))
+      ∙ ap (λ (d : List (List ℕ)). firstIndex (makesDue (boardOf b) (firstValue d)) (boardOf b)) (sym (g .due-are)))
 
 -- ---- the list
 

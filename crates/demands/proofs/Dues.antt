@@ -23,7 +23,7 @@ use Rattle.ledger.specs.WorkingBoard as ledger
 use Rattle.ledger.specs.WorkingBoard.{carried, unwithdrawn, live, headers, carries, countOf, due, rowsOf}
 use Rattle.ledger.proofs.Sorts.{has-in, in-insertAll, insertAll-sorted, in-map, every-in}
 use Rattle.told.specs.Values.{passing}
-use Rattle.demands.specs.Board.{some, withdrawn, airedOn, carriesIt, makesDue, dueHeaders, Due, indexOf, rowOf}
+use Rattle.demands.specs.Board.{some, withdrawn, airedOn, carriesIt, makesDue, dueHeaders, Due, firstIndex, rowOf}
 use Rattle.demands.proofs.Rows.{at-pick}
 use Rattle.demands.proofs.Members.{both, eqb-iff, same-iff, and-iff, not-iff, some-in, in-passing}
 
@@ -147,7 +147,7 @@ module _ (b : List (List ℕ)) (ok : every recordOk b ≡ true) where
   unfolding due
   due-same = ap (λ (l : List (List ℕ)). insertAll l []) (headers-are b)
 
-  pub index-same : (h : List ℕ) (l : List (List ℕ)) → ledger.indexOf (live b) h l ≡ indexOf (makesDue b h) l
+  pub index-same : (h : List ℕ) (l : List (List ℕ)) → ledger.indexOf (live b) h l ≡ firstIndex (makesDue b h) l
   index-same h [] = refl
   index-same h (r ∷ l) = ap₂ (λ (t : Bool) (k : ℕ). pick t zero (suc k)) (makes-same h r) (index-same h l)
 

@@ -22,7 +22,7 @@ use Rattle.markup.specs.Document.{docAt}
 use Rattle.reads.specs.declared.Alert.{Alert}
 use Rattle.gather.specs.WorkingRead.{leafIn, alertOf}
 use Rattle.leaves.proofs.Reals.{AllReal, leaf-is}
-use Rattle.message.specs.WorkingJudged.{identified, timed, valued, typed, isUnknown, infoOk, fieldOf, referenced}
+use Rattle.message.specs.WorkingJudged.{identified, timed, placeAmong, typed, isUnknown, infoOk, fieldOf, referenced}
 use Rattle.told.specs.Values.{isOne, valueOf, once, infoSound, languagesSound}
 use Rattle.told.proofs.Leaves.{leaf-once, leaf-value}
 use Rattle.told.proofs.Alerts.{info-sound, selected-tells, selected-real, languages-fault}
@@ -36,7 +36,7 @@ use Rattle.demands.proofs.MsgTypes.{msgTypes, unknown-is}
 
 module _ (s p : List ℕ) (w : String) (t : Forest) (r : AllReal s t) where
   identified-is : identified s (leafIn s p w t) ≡ (once s p w t && isIdentity (valueOf s p w t))
-  unfolding identified fields.identityOk fields.isIdentity isVisible
+  unfolding identified fields.identityOk fields.isIdentityByte isVisible
   identified-is = rw (leaf-once s p w t r, leaf-value s p w t r)
 
   pub timed-is : timed s (leafIn s p w t) ≡ pick (once s p w t) (timeOf (valueOf s p w t)) Time.Bad
@@ -44,14 +44,14 @@ module _ (s p : List ℕ) (w : String) (t : Forest) (r : AllReal s t) where
   timed-is = rw (leaf-once s p w t r, leaf-value s p w t r)
 
   pub referenced-is : referenced s (leafIn s p w t) ≡ (once s p w t && areGroups (valueOf s p w t))
-  unfolding referenced referencesOk groupOk fields.identityOk fields.isIdentity isVisible
+  unfolding referenced referencesOk groupOk fields.identityOk fields.isIdentityByte isVisible
   referenced-is = rw (leaf-once s p w t r, leaf-value s p w t r)
 
-  valued-is : (ws : List String) → valued s ws (leafIn s p w t) ≡ pick (once s p w t) (working-fields.indexIn ws (valueOf s p w t)) 0
-  unfolding valued
+  valued-is : (ws : List String) → placeAmong s ws (leafIn s p w t) ≡ pick (once s p w t) (working-fields.indexIn ws (valueOf s p w t)) 0
+  unfolding placeAmong
   valued-is ws = rw (leaf-once s p w t r, leaf-value s p w t r)
 
-  unvalued-is : (ws : List String) → eqb (valued s ws (leafIn s p w t)) 0 ≡ not (once s p w t && isOne ws (valueOf s p w t))
+  unvalued-is : (ws : List String) → eqb (placeAmong s ws (leafIn s p w t)) 0 ≡ not (once s p w t && isOne ws (valueOf s p w t))
   unvalued-is ws = rw (valued-is ws) (go (once s p w t))
     where
       go : (b : Bool) → eqb (pick b (working-fields.indexIn ws (valueOf s p w t)) 0) 0 ≡ not (b && isOne ws (valueOf s p w t))
@@ -73,7 +73,7 @@ module _ (s p : List ℕ) (w : String) (t : Forest) (r : AllReal s t) where
   typed-once o = rw (typed-is, o)
 
   pub place-test : (f : ℕ → Bool) → f 0 ≡ false → (ws : List String) → distinct ws ≡ true → once s p w t ≡ true →
-      f (valued s ws (leafIn s p w t)) ≡ isOne (placesPass f ws) (valueOf s p w t)
+      f (placeAmong s ws (leafIn s p w t)) ≡ isOne (placesPass f ws) (valueOf s p w t)
   place-test f z ws d o = rw (valued-is ws, o) (index-test f z ws d (valueOf s p w t))
 
 -- ---- the alert

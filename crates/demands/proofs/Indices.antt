@@ -13,7 +13,7 @@ use Rattle.octets.specs.Bytes.{pick}
 use Rattle.octets.specs.Text.{bytes}
 use Rattle.octets.proofs.Tests.{and-left, and-right}
 use Rattle.octets.proofs.Sames.{same-is}
-use Rattle.fields.specs.WorkingFields.{later, indexIn}
+use Rattle.fields.specs.WorkingFields.{placeOn, indexIn}
 use Rattle.told.specs.Values.{is, isOne}
 
 -- no word twice
@@ -24,7 +24,7 @@ distinct (w ∷ ws) = not (isOne ws (bytes w)) && distinct ws
 -- the words whose places pass
 abbrev pub placesPass : (ℕ → Bool) → List String → List String
 placesPass f [] = []
-placesPass f (w ∷ ws) = pick (f 1) (w ∷ placesPass (λ (n : ℕ). f (later n)) ws) (placesPass (λ (n : ℕ). f (later n)) ws)
+placesPass f (w ∷ ws) = pick (f 1) (w ∷ placesPass (λ (n : ℕ). f (placeOn n)) ws) (placesPass (λ (n : ℕ). f (placeOn n)) ws)
 
 -- a word kept or not, before others
 one-kept : (b : Bool) (w : String) (ws : List String) (v : List ℕ) → isOne (pick b (w ∷ ws) ws) v ≡ ((b && is w v) || isOne ws v)
@@ -33,7 +33,7 @@ one-kept false w ws v = refl
 
 none-passes : (f : ℕ → Bool) (ws : List String) (v : List ℕ) → isOne ws v ≡ false → isOne (placesPass f ws) v ≡ false
 none-passes f [] v h = refl
-none-passes f (w ∷ ws) v h = one-kept (f 1) w (placesPass (λ (n : ℕ). f (later n)) ws) v ∙ go (f 1) (is w v) h (none-passes (λ (n : ℕ). f (later n)) ws v)
+none-passes f (w ∷ ws) v h = one-kept (f 1) w (placesPass (λ (n : ℕ). f (placeOn n)) ws) v ∙ go (f 1) (is w v) h (none-passes (λ (n : ℕ). f (placeOn n)) ws v)
   where
     go : (a b : Bool) {c d : Bool} → (b || c) ≡ false → (c ≡ false → d ≡ false) → ((a && b) || d) ≡ false
     go true true h k = h
@@ -51,7 +51,7 @@ pub index-test : (f : ℕ → Bool) → f 0 ≡ false → (ws : List String) →
 unfolding indexIn
 index-test f z [] d v = z
 index-test f z (w ∷ ws) d v =
-    let g : ℕ → Bool = λ (n : ℕ). f (later n) in
+    let g : ℕ → Bool = λ (n : ℕ). f (placeOn n) in
     go (is w v) (indexIn ws v) (no-other g w ws v d) (index-test g z ws (and-right (not (isOne ws (bytes w))) (distinct ws) d) v)
     ∙ sym (one-kept (f 1) w (placesPass g ws) v)
   where
@@ -59,7 +59,7 @@ index-test f z (w ∷ ws) d v =
     at true e = refl
     at false e = sym e
 
-    go : (a : Bool) (n : ℕ) {r : Bool} → (a ≡ true → r ≡ false) → f (later n) ≡ r → f (pick a 1 (later n)) ≡ ((f 1 && a) || r)
+    go : (a : Bool) (n : ℕ) {r : Bool} → (a ≡ true → r ≡ false) → f (placeOn n) ≡ r → f (pick a 1 (placeOn n)) ≡ ((f 1 && a) || r)
     go true n none ih = at (f 1) (none refl)
     go false n none ih = rw (and-false (f 1)) ih
 
@@ -68,7 +68,7 @@ unfolding indexIn
 index-none [] v = refl
 index-none (w ∷ ws) v = go (is w v) (indexIn ws v) (isOne ws v) (index-none ws v)
   where
-    go : (b : Bool) (n : ℕ) (r : Bool) → eqb n 0 ≡ not r → eqb (pick b 1 (later n)) 0 ≡ not (b || r)
+    go : (b : Bool) (n : ℕ) (r : Bool) → eqb n 0 ≡ not r → eqb (pick b 1 (placeOn n)) 0 ≡ not (b || r)
     go true n r e = refl
     go false zero r e = e
     go false (suc n) r e = ne-eqb (suc (suc n)) 0 (omega arith) ∙ sym (ne-eqb (suc n) 0 (omega arith)) ∙ e

@@ -22,7 +22,7 @@ use Rattle.parts.specs.Originator.{originatorBytes, originatorOf, isKnown}
 use Rattle.parts.specs.Parts.{eventOk}
 use Rattle.parts.specs.declared.Originator.the-variants.{Pep, Eas, Wxr, Civ}
 use Rattle.parts.specs.declared.Origin.the-variants.{Known, Unknown}
-use Rattle.reads.specs.WorkingLeaves.{blank}
+use Rattle.reads.specs.WorkingLeaves.{noLeaf}
 use Rattle.reads.specs.declared.Info.{Info}
 use Rattle.reads.specs.declared.Leaf.{Leaf}
 use Rattle.reads.specs.declared.Locations.{Locations}
@@ -32,7 +32,7 @@ use Rattle.leaves.specs.Leaf.{leafValue}
 use Rattle.message.specs.WorkingMessage.{judged}
 use Rattle.judgement.specs.WorkingRules.{eventIs, originOf, located, secondsTo, unplaced, quietOf}
 use Rattle.judgement.specs.WorkingJudged.{lasting}
-use Rattle.told.specs.Values.{isNone, passing, firstOf, is, isOne, valuesNamed, parameters, isSix, audioIn}
+use Rattle.told.specs.Values.{isNone, passing, firstValue, is, isOne, valuesNamed, parameters, isSix, audioIn}
 use Rattle.told.proofs.Leaves.{leaf-value, leaf-none}
 use Rattle.told.proofs.Infos.{FoundTells, events-tell, parameters-tell, AudioTells, audio-tells}
 use Rattle.told.proofs.Locations.{LocationsTell, locations-tell}
@@ -47,7 +47,7 @@ use Rattle.demands.proofs.Alerts.{said, sent-said, cancel-said}
 
 -- the value of the leaf k: 1 expires, 2 senderName, 3 description, 4 instruction
 abbrev pub leafOf : Info → ℕ → Leaf
-leafOf i k = getD (i .leaf) k (blank 0)
+leafOf i k = getD (i .leaf) k (noLeaf 0)
 
 pub record Told (s : List ℕ) (i : Info) : Type 0 where
   pub events : FoundTells s (i .events .same) (events s)
@@ -143,7 +143,7 @@ known-is v = go (is "PEP" v) (is "EAS" v) (is "WXR" v) (is "CIV" v)
     go false false false false = refl
 
 -- absent means CIV
-first-origin : (vs : List (List ℕ)) → pick (isNone vs) (Known Civ) (originatorOf (firstOf vs)) ≡ originatorOf (firstOf (vs ++ (bytes "CIV" ∷ [])))
+first-origin : (vs : List (List ℕ)) → pick (isNone vs) (Known Civ) (originatorOf (firstValue vs)) ≡ originatorOf (firstValue (vs ++ (bytes "CIV" ∷ [])))
 unfolding originatorOf originatorBytes same bytes
 first-origin [] = refl
 first-origin (v ∷ vs) = refl
@@ -161,7 +161,7 @@ left-none (At m) n = go (decLt n m)
 
 -- absent leaves none
 seconds-left : (f : Element → List ℕ) (es : List Element) (n : ℕ) →
-    pick (isNone es) 0 (instantIn (timeOf (firstOf (map f es))) - n) ≡ instantIn (timeOf (firstOf (map f es))) - n
+    pick (isNone es) 0 (instantIn (timeOf (firstValue (map f es))) - n) ≡ instantIn (timeOf (firstValue (map f es))) - n
 unfolding timeOf every
 seconds-left f [] n = omega arith
 seconds-left f (e ∷ es) n = refl
@@ -170,7 +170,7 @@ seconds-left f (e ∷ es) n = refl
 
 -- what 11 to 14 ask of a message that is not quiet
 abbrev pub hasEvent : List ℕ → Bool
-hasEvent s = eqb (length (events s)) 1 && isEvent (firstOf (events s))
+hasEvent s = eqb (length (events s)) 1 && isEvent (firstValue (events s))
 
 abbrev pub hasOrigin : List ℕ → Bool
 hasOrigin s = isOne ("PEP" ∷ "EAS" ∷ "WXR" ∷ "CIV" ∷ []) (originator s)

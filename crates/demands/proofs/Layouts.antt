@@ -5,7 +5,7 @@ use mathlib.Core.Path.{_≡_, refl}
 use mathlib.Core.List.{List, [], _∷_, _++_}
 use lib.ListN.{replicate}
 use Rattle.octets.specs.Text.{bytes}
-use Rattle.offers.specs.Offer.{Offering}
+use Rattle.offers.specs.Offer.{MessageOffering}
 use Rattle.board.specs.Rules.{boardOf}
 use Rattle.board.specs.Calls.{Handing}
 use Rattle.demands.specs.Calls.{library}

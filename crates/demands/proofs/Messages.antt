@@ -16,7 +16,7 @@ use Rattle.octets.specs.Digits.{value}
 use Rattle.octets.proofs.Tests.{and-right}
 use Rattle.values.specs.Value.{valueAt}
 use Rattle.gather.specs.WorkingRead.{leafIn, alertOf}
-use Rattle.message.specs.WorkingMessage.{judged, messageOf}
+use Rattle.message.specs.WorkingMessage.{judged, messageSays}
 use Rattle.message.specs.declared.Message.{Message}
 use Rattle.judgement.specs.WorkingRules.{located, quietOf}
 use Rattle.judgement.specs.WorkingJudged.{without, bodyWith, bodyIn, alerted, judgedBy, judgedOf}
@@ -25,12 +25,12 @@ use Rattle.judgement.proofs.Answers.{alerted-holds, judged-holds}
 use Rattle.judgement.proofs.Bodies.{alerting, alert-body, message-kept}
 use Rattle.convert.specs.WorkingConvert.{textIn, uriIn, alertGiven}
 use Rattle.records.specs.Record.{notice, withdrawal}
-use Rattle.offers.specs.WorkingRecords.{ownIn, headerIn, namedBy, alertBy, recordsOf}
+use Rattle.offers.specs.WorkingRecords.{ownIn, zeroFilledHeader, namedBy, alertBy, recordsOf}
 use Rattle.told.specs.Values.{isNone, valueOf, isSix}
 use Rattle.told.proofs.Leaves.{leaf-value}
 use Rattle.demands.specs.Message.{prefix, alert, locations, isQuiet, headerBody, wholeOf}
 use Rattle.demands.specs.Board.{ownKey, ownHeader, namedKeys, messageRecords}
-use Rattle.demands.specs.Numbers.{Row, row, lowestIn, fieldBeside, messageRows, headerRows, takenRows}
+use Rattle.demands.specs.Numbers.{NumberRow, row, lowestIn, fieldBeside, messageRows, headerRows, takenRows}
 use Rattle.demands.proofs.Rows.{held, at-pick, pick-same, lowest-append}
 use Rattle.demands.proofs.Fields.{alert-real, read, Faultless}
 use Rattle.demands.proofs.Alerts.{said, sent-said, naming-said, message-number, message-field, message-said, message-faultless}
@@ -40,7 +40,7 @@ use Rattle.demands.proofs.Infos.{event-said, origin-said, known-said, p
 -- ---- 11 to 14
 
 -- their rows, where the message is quiet or not
-abbrev rowsWhere : Bool → List ℕ → List Row
+abbrev rowsWhere : Bool → List ℕ → List NumberRow
 rowsWhere quiet s =
     row 11 (not quiet && not (hasEvent s))
     ∷ row 12 (not quiet && not (hasOrigin s))
@@ -80,7 +80,7 @@ module _ (s : List ℕ) where
       ∙ sym (lowest-append (messageRows s) (headerRows s) refl)
     where
       m : Message
-      m = messageOf s
+      m = messageSays s
 
       go : (b : Bool) → eqb (m .number) 0 ≡ b → pick b (pick (quietOf m) 0 (alerted s m .number)) (m .number) ≡ pick b (lowestIn (headerRows s)) (m .number)
       go true e =
@@ -95,7 +95,7 @@ module _ (s : List ℕ) where
       (λ e. let z = eqb-true (m .number) 0 e in alerted-holds s m P (λ n h. unless n z) (unless 0 z))
     where
       m : Message
-      m = messageOf s
+      m = messageSays s
 
       -- where none of 4 to 10 applies the field is 0, whatever is answered
       unless : (n : ℕ) → m .number ≡ 0 → m .field ≡ fieldBeside n s
@@ -109,39 +109,39 @@ take-map f (suc n) [] = refl
 take-map f (suc n) (x ∷ xs) = ap (λ ys. f x ∷ ys) (take-map f n xs)
 
 module _ (s : List ℕ) (zero : judgedOf s .number ≡ 0) where
-  message-zero : messageOf s .number ≡ 0
+  message-zero : messageSays s .number ≡ 0
   unfolding judgedBy
-  message-zero = go (eqb (messageOf s .number) 0) refl
+  message-zero = go (eqb (messageSays s .number) 0) refl
     where
-      go : (b : Bool) → eqb (messageOf s .number) 0 ≡ b → messageOf s .number ≡ 0
-      go true e = eqb-true (messageOf s .number) 0 e
+      go : (b : Bool) → eqb (messageSays s .number) 0 ≡ b → messageSays s .number ≡ 0
+      go true e = eqb-true (messageSays s .number) 0 e
       go false e = rw e at zero
 
-  is-said : messageOf s ≡ said s
+  is-said : messageSays s ≡ said s
   is-said = message-said s message-zero
 
   sound : Faultless s
   sound = message-faultless s message-zero
 
   kept : judgedOf s .message ≡ said s
-  kept = message-kept s (messageOf s) ∙ is-said
+  kept = message-kept s (messageSays s) ∙ is-said
 
   pub quiet-is : judgedOf s .quiet ≡ isQuiet s
   unfolding judgedBy
-  quiet-is = rw (eq-eqb (messageOf s .number) 0 message-zero) (go (quietOf (messageOf s))) ∙ ap quietOf is-said ∙ quiet-said s sound
+  quiet-is = rw (eq-eqb (messageSays s .number) 0 message-zero) (go (quietOf (messageSays s))) ∙ ap quietOf is-said ∙ quiet-said s sound
     where
-      go : (b : Bool) → pick b (without (messageOf s) 0 true) (alerted s (messageOf s)) .quiet ≡ b
+      go : (b : Bool) → pick b (without (messageSays s) 0 true) (alerted s (messageSays s)) .quiet ≡ b
       go true = refl
-      go false = alerted-holds s (messageOf s) (λ (j : Judged). j .quiet ≡ false) (λ n h. refl) refl
+      go false = alerted-holds s (messageSays s) (λ (j : Judged). j .quiet ≡ false) (λ n h. refl) refl
 
   pub body-is : isQuiet s ≡ false → judgedOf s .body ≡ headerBody s
   unfolding bodyWith headerBody judged
   body-is loud =
       let t = told s sound in
-      let a = alerting s (messageOf s) zero (quiet-is ∙ loud) in
+      let a = alerting s (messageSays s) zero (quiet-is ∙ loud) in
       let places : located (read s .info .locations) ≡ true = rw is-said at (a .places) in
       let six : every isSix (locations s) ≡ true = and-right (not (isNone (locations s))) _ (sym (places-said s sound) ∙ places) in
-      alert-body s (messageOf s) a ∙ ap (bodyIn s) is-said
+      alert-body s (messageSays s) a ∙ ap (bodyIn s) is-said
       ∙ rw (
         origin-said s sound,
         t .events .value,
@@ -167,10 +167,10 @@ module _ (s : List ℕ) (zero : judgedOf s .number ≡ 0) where
   names-are = rw (kept, naming-said s sound, leaf-said "references")
 
   notice-is : map (notice (ownIn s (judgedOf s .message))) (alertBy s (judgedOf s) .carries) ≡ pick (isQuiet s) [] (notice (ownKey s) (ownHeader s) ∷ [])
-  unfolding alertBy headerIn
+  unfolding alertBy zeroFilledHeader
   notice-is = rw (key-is, quiet-is) (go (isQuiet s) refl)
     where
-      go : (b : Bool) → isQuiet s ≡ b → map (notice (ownKey s)) (pick b [] (headerIn (judgedOf s) ∷ [])) ≡ pick b [] (notice (ownKey s) (ownHeader s) ∷ [])
+      go : (b : Bool) → isQuiet s ≡ b → map (notice (ownKey s)) (pick b [] (zeroFilledHeader (judgedOf s) ∷ [])) ≡ pick b [] (notice (ownKey s) (ownHeader s) ∷ [])
       go true e = refl
       go false e = rw (body-is e)
 

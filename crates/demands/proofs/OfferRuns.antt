@@ -20,9 +20,9 @@ use Rattle.ledger.proofs.Sorts.{every-in, in-map}
 use Rattle.board.specs.WorkingRules.{Records}
 use Rattle.board.specs.WorkingCalls as calls
 use Rattle.board.specs.WorkingRuns.{offersTo, AllTaken, AllRecords}
-use Rattle.offers.specs.WorkingRecords.{headerIn, alertBy, recordsOf}
-use Rattle.offers.specs.Offer.{Offering}
-use Rattle.offers.specs.WorkingOffer.{given, offerOf}
+use Rattle.offers.specs.WorkingRecords.{zeroFilledHeader, alertBy, recordsOf}
+use Rattle.offers.specs.Offer.{MessageOffering}
+use Rattle.offers.specs.WorkingOffer.{offerGiven, messageOffer}
 use Rattle.offers.proofs.Taken.{shaped, records-ok}
 use Rattle.offers.proofs.Offering.{offer-zero}
 use Rattle.told.specs.Values.{passing}
@@ -67,12 +67,12 @@ module _ (m : List ℕ) (t : Takes m) where
   alert-records = subst Records left (every-in recordOk (recordsOf m) (records-ok m))
 
   -- an offer of it is one of its records
-  pub taken-offer : (b : List ℕ) → offerOf b m ≡ given (calls.offerOf b (records (alertOf m)))
-  taken-offer b = offer-zero b m zero ∙ ap (λ (rs : List (List ℕ)). given (calls.offerOf b rs)) left
+  pub taken-offer : (b : List ℕ) → messageOffer b m ≡ offerGiven (calls.offerOf b (records (alertOf m)))
+  taken-offer b = offer-zero b m zero ∙ ap (λ (rs : List (List ℕ)). offerGiven (calls.offerOf b rs)) left
 
 -- and one that is not changes nothing
-pub not-taken : (b m : List ℕ) → takes m ≡ false → offerOf b m .bytes ≡ b
-not-taken b m f = offer-cases b m (λ (o : Offering). o .bytes ≡ b) (λ n g k. refl) (λ t. absurd (true≢false (sym (takes-is m .1 (t .judged)) ∙ f)))
+pub not-taken : (b m : List ℕ) → takes m ≡ false → messageOffer b m .bytes ≡ b
+not-taken b m f = offer-cases b m (λ (o : MessageOffering). o .bytes ≡ b) (λ n g k. refl) (λ t. absurd (true≢false (sym (takes-is m .1 (t .judged)) ∙ f)))
 
 pub all-records : (ms : List (List ℕ)) → AllRecords (alertsOf ms)
 all-records ms a i = let w = in-alerts ms a .0 i in subst (λ (x : Alert). Records (records x)) (sym (w .3)) (alert-records (w .0) (w .2))
@@ -88,12 +88,12 @@ pub record Ran (ms : List (List ℕ)) (b : List ℕ) : Type 0 where
 
 pub runs : (ms : List (List ℕ)) (b : List ℕ) → isBoard b ≡ true → NoneFull library ms b → Ran ms b
 runs [] b ok n = record { is = refl; taken = tt }
-runs (m ∷ ms) b ok n = go (takes m) refl (runs ms (offerOf b m .bytes) (offer-keeps b m ok .0) (n .1))
+runs (m ∷ ms) b ok n = go (takes m) refl (runs ms (messageOffer b m .bytes) (offer-keeps b m ok .0) (n .1))
   where
-    go : (t : Bool) → takes m ≡ t → Ran ms (offerOf b m .bytes) → Ran (m ∷ ms) b
+    go : (t : Bool) → takes m ≡ t → Ran ms (messageOffer b m .bytes) → Ran (m ∷ ms) b
     go true e r =
-        let same = ap (λ (o : Offering). o .bytes) (taken-offer m e b) in
-        let number = sym (ap (λ (o : Offering). o .answer .number) (taken-offer m e b)) ∙ taken-exactly b m ok (n .0) .1 e in
+        let same = ap (λ (o : MessageOffering). o .bytes) (taken-offer m e b) in
+        let number = sym (ap (λ (o : MessageOffering). o .answer .number) (taken-offer m e b)) ∙ taken-exactly b m ok (n .0) .1 e in
         record { is = rw e (r .is ∙ ap (offersTo (alertsOf ms)) same); taken = rw e (number, subst (AllTaken (alertsOf ms)) same (r .taken)) }
     go false e r =
         let same = not-taken b m e in
@@ -110,8 +110,8 @@ module _ (m : List ℕ) (t : Takes m) where
   names : alertOf m .names ≡ namedKeys m
   names = names-are m (zero m t)
 
-  header-is : isQuiet m ≡ false → headerIn (judgedOf m) ≡ ownHeader m
-  unfolding headerIn
+  header-is : isQuiet m ≡ false → zeroFilledHeader (judgedOf m) ≡ ownHeader m
+  unfolding zeroFilledHeader
   header-is q = ap (λ (y : Body). pad 243 (bodyBytes y)) (body-is m (zero m t) q)
 
   carries-is : (h : List ℕ) → In h (alertOf m .carries) ↔ ((isQuiet m ≡ false) × (ownHeader m ≡ h))
@@ -119,7 +119,7 @@ module _ (m : List ℕ) (t : Takes m) where
   carries-is h = subst Said (sym (quiet-is m (zero m t))) (go (isQuiet m) refl)
     where
       Said : Bool → Type 0
-      Said q = In h (pick q [] (headerIn (judgedOf m) ∷ [])) ↔ ((isQuiet m ≡ false) × (ownHeader m ≡ h))
+      Said q = In h (pick q [] (zeroFilledHeader (judgedOf m) ∷ [])) ↔ ((isQuiet m ≡ false) × (ownHeader m ≡ h))
 
       go : (q : Bool) → isQuiet m ≡ q → Said q
       go true e = (absurd, λ w. absurd (true≢false (sym e ∙ w .0)))

@@ -9,7 +9,7 @@ use Rattle.board.specs.WorkingCalls as board-calls
 use Rattle.board.specs.Rules.{boardOf}
 use Rattle.board.specs.WorkingRules.{boardOk, encode}
 use Rattle.offers.specs.WorkingOffer as offers-offer
-use Rattle.offers.specs.WorkingRecords.{alertBy, headerIn, namedBy, ownIn, recordsOf}
+use Rattle.offers.specs.WorkingRecords.{alertBy, zeroFilledHeader, namedBy, ownIn, recordsOf}
 use Rattle.demands.specs.Message.{headerBody, wholeOf}
 use Rattle.demands.specs.Numbers.{noneApplies}
 use Rattle.worked.proofs.Opens.{converting}
@@ -31,7 +31,7 @@ unfolding handOf board-calls.offerOf boardOf boardOk encode
 board-opens = tt
 
 offers-opens : Unit {0}
-unfolding offers-offer.offerOf alertBy headerIn namedBy ownIn recordsOf
+unfolding offers-offer.messageOffer alertBy zeroFilledHeader namedBy ownIn recordsOf
 offers-opens = tt
 
 demands-opens : Unit {0}

@@ -28,14 +28,14 @@ use Rattle.board.proofs.Boards.{kept, board-within}
 use Rattle.board.proofs.Answers.{hand-bad, list-bad}
 use Rattle.board.proofs.Keeps as keeps
 use Rattle.offers.specs.WorkingRecords.{recordsOf}
-use Rattle.offers.specs.Offer.{Offering}
-use Rattle.offers.specs.WorkingOffer.{refused, given, offerOf}
+use Rattle.offers.specs.Offer.{MessageOffering}
+use Rattle.offers.specs.WorkingOffer.{offerRefusedBy, offerGiven, messageOffer}
 use Rattle.offers.proofs.Taken.{records-ok}
 use Rattle.offers.proofs.Offering.{offer-board, offer-message, offer-zero}
 use Rattle.demands.specs.Calls.{library}
-use Rattle.demands.specs.Board.{messageRecords, newTo, dueHeaders, makesDue, indexOf, rowOf}
+use Rattle.demands.specs.Board.{messageRecords, newTo, dueHeaders, makesDue, firstIndex, rowOf}
 use Rattle.demands.specs.Numbers.{isBoard, emptiesIn}
-use Rattle.demands.specs.Runs.{givenBy}
+use Rattle.demands.specs.Runs.{headerGiven}
 use Rattle.demands.proofs.Messages.{records-are}
 use Rattle.demands.proofs.Dues.{due-same, rows-same, index-same}
 use Rattle.demands.proofs.BoardRules.{board-same, adds-new}
@@ -56,13 +56,13 @@ pub record Taken (b s : List ℕ) : Type 0 where
   pub is-board : isBoard b ≡ true
   pub judged : judgedOf s .number ≡ 0
   pub room : newsOf b s ≤ emptiesIn b
-  pub answer : offerOf b s .answer ≡ record { number = 0; field = 0; added = newsOf b s }
-  pub left : Left b (insertAll (messageRecords s) (boardOf b)) (offerOf b s .bytes)
+  pub answer : messageOffer b s .answer ≡ record { number = 0; field = 0; added = newsOf b s }
+  pub left : Left b (insertAll (messageRecords s) (boardOf b)) (messageOffer b s .bytes)
 
 pub data Offered (b s : List ℕ) : Type 0 where
-  bad : isBoard b ≡ false → offerOf b s ≡ refused 1 0 b → Offered b s
-  unfit : isBoard b ≡ true → (judgedOf s .number ≡ 0 → ⊥) → offerOf b s ≡ refused (judgedOf s .number) (judgedOf s .field) b → Offered b s
-  full : isBoard b ≡ true → judgedOf s .number ≡ 0 → emptiesIn b < newsOf b s → offerOf b s ≡ refused 15 0 b → Offered b s
+  bad : isBoard b ≡ false → messageOffer b s ≡ offerRefusedBy 1 0 b → Offered b s
+  unfit : isBoard b ≡ true → (judgedOf s .number ≡ 0 → ⊥) → messageOffer b s ≡ offerRefusedBy (judgedOf s .number) (judgedOf s .field) b → Offered b s
+  full : isBoard b ≡ true → judgedOf s .number ≡ 0 → emptiesIn b < newsOf b s → messageOffer b s ≡ offerRefusedBy 15 0 b → Offered b s
   taken : Taken b s → Offered b s
 
 module _ (b s : List ℕ) (ok : boardOk b ≡ true) (z : judgedOf s .number ≡ 0) where
@@ -77,18 +77,18 @@ module _ (b s : List ℕ) (ok : boardOk b ≡ true) (z : judgedOf s .number ≡ 
   good : Records (recordsOf s)
   good = every-in recordOk (recordsOf s) (records-ok s)
 
-  bytes-are : offerOf b s .bytes ≡ working-calls.offerOf b (recordsOf s) .bytes
-  bytes-are = ap (λ (o : Offering). o .bytes) (offer-zero b s z)
+  bytes-are : messageOffer b s .bytes ≡ working-calls.offerOf b (recordsOf s) .bytes
+  bytes-are = ap (λ (o : MessageOffering). o .bytes) (offer-zero b s z)
 
   records-offered : keeps.Offer b (recordsOf s) → Offered b s
-  records-offered (keeps.Offer.full l e) = full (board-same b ∙ ok) z (omega (arith, grown, board-within b)) (offer-zero b s z ∙ ap given e)
+  records-offered (keeps.Offer.full l e) = full (board-same b ∙ ok) z (omega (arith, grown, board-within b)) (offer-zero b s z ∙ ap offerGiven e)
   records-offered (keeps.Offer.taken l e) = taken record {
     is-board = board-same b ∙ ok;
     judged = z;
     room = omega (arith, grown);
     answer =
         let added : length filled - length (boardOf b) ≡ newsOf b s = omega (arith, grown) in
-        ap (λ (o : Offering). o .answer) (offer-zero b s z ∙ ap given e) ∙ ap (λ (k : ℕ). record { number = 0; field = 0; added = k }) added;
+        ap (λ (o : MessageOffering). o .answer) (offer-zero b s z ∙ ap offerGiven e) ∙ ap (λ (k : ℕ). record { number = 0; field = 0; added = k }) added;
     left = record {
       keeps = board-same _ ∙ ap boardOk bytes-are ∙ keeps.offer-keeps b (recordsOf s) ok good;
       long = ap length bytes-are ∙ keeps.offer-long b (recordsOf s) ok good;
@@ -110,10 +110,10 @@ module _ (b s : List ℕ) where
       go true ok true e = let z = eqb-true (judgedOf s .number) 0 e in records-offered b s ok z (keeps.offer-is b (recordsOf s) ok)
 
   -- what holds of every refusal, and where the message is taken, holds of the offer
-  pub offer-cases : (P : Offering → Type 0) → ((n f : ℕ) → (n ≡ 0 → ⊥) → P (refused n f b)) → (Taken b s → P (offerOf b s)) → P (offerOf b s)
+  pub offer-cases : (P : MessageOffering → Type 0) → ((n f : ℕ) → (n ≡ 0 → ⊥) → P (offerRefusedBy n f b)) → (Taken b s → P (messageOffer b s)) → P (messageOffer b s)
   offer-cases P no-change change = go offered
     where
-      go : Offered b s → P (offerOf b s)
+      go : Offered b s → P (messageOffer b s)
       go (bad _ e) = subst P (sym e) (no-change 1 0 (λ z. omega arith))
       go (unfit _ n e) = subst P (sym e) (no-change (judgedOf s .number) (judgedOf s .field) n)
       go (full _ _ _ e) = subst P (sym e) (no-change 15 0 (λ z. omega arith))
@@ -128,8 +128,8 @@ pub record Given (b : List ℕ) : Type 0 where
   pub others : List (List ℕ)
   pub due-are : dueHeaders (boardOf b) ≡ first ∷ others
   pub room : emptiesIn b ≡ suc (emptiesIn (working-calls.handOf b .bytes))
-  pub answer : working-calls.handOf b .answer ≡ record { number = 0; index = indexOf (makesDue (boardOf b) first) (boardOf b) }
-  pub gives : givenBy library b ≡ first ∷ []
+  pub answer : working-calls.handOf b .answer ≡ record { number = 0; index = firstIndex (makesDue (boardOf b) first) (boardOf b) }
+  pub gives : headerGiven library b ≡ first ∷ []
   pub left : Left b (insert (aired first) (boardOf b)) (working-calls.handOf b .bytes)
 
 pub data Handed (b : List ℕ) : Type 0 where

@@ -15,17 +15,17 @@ use lib.ListN.{getD}
 use Rattle.octets.specs.Bytes.{pick, every}
 use Rattle.octets.proofs.Tests.{every-first, every-rest}
 use Rattle.ledger.specs.Sorted.{In}
-use Rattle.demands.specs.Numbers.{Row, row, lowestIn, noneApplies, Numbered}
+use Rattle.demands.specs.Numbers.{NumberRow, row, lowestIn, noneApplies, Numbered}
 
 -- ---- one row in front of others
 
-pub held : (b : Bool) (n x : ℕ) (rs : List Row) → x ≡ lowestIn rs → pick b x n ≡ lowestIn (row n (not b) ∷ rs)
+pub held : (b : Bool) (n x : ℕ) (rs : List NumberRow) → x ≡ lowestIn rs → pick b x n ≡ lowestIn (row n (not b) ∷ rs)
 unfolding lowestIn
 held true n x rs h = h
 held false n x rs h = refl
 
 -- what is asked next counts only where the test holds
-pub held-when : (b : Bool) (n x : ℕ) (rs : List Row) → (b ≡ true → x ≡ lowestIn rs) → pick b x n ≡ lowestIn (row n (not b) ∷ rs)
+pub held-when : (b : Bool) (n x : ℕ) (rs : List NumberRow) → (b ≡ true → x ≡ lowestIn rs) → pick b x n ≡ lowestIn (row n (not b) ∷ rs)
 unfolding lowestIn
 held-when true n x rs h = h refl
 held-when false n x rs h = refl
@@ -42,15 +42,15 @@ pick-same false x = refl
 -- ---- none applies
 
 -- the numbers of these rows are not 0
-abbrev pub positive : List Row → Bool
+abbrev pub positive : List NumberRow → Bool
 positive rs = every (λ r. not (eqb (r .number) 0)) rs
 
-pub none-lowest : (rs : List Row) → positive rs ≡ true → (lowestIn rs ≡ 0) ↔ (noneApplies rs ≡ true)
+pub none-lowest : (rs : List NumberRow) → positive rs ≡ true → (lowestIn rs ≡ 0) ↔ (noneApplies rs ≡ true)
 unfolding lowestIn noneApplies every
 none-lowest [] h = (λ e. refl, λ e. refl)
 none-lowest (r ∷ rs) h =
-    go (r .applies) (eqb-false (r .number) 0 (not-true (eqb (r .number) 0) (every-first (λ (r : Row). not (eqb (r .number) 0)) r rs h)))
-    (none-lowest rs (every-rest (λ (r : Row). not (eqb (r .number) 0)) r rs h))
+    go (r .applies) (eqb-false (r .number) 0 (not-true (eqb (r .number) 0) (every-first (λ (r : NumberRow). not (eqb (r .number) 0)) r rs h)))
+    (none-lowest rs (every-rest (λ (r : NumberRow). not (eqb (r .number) 0)) r rs h))
   where
     go : (b : Bool) → (r .number ≡ 0 → ⊥) → (lowestIn rs ≡ 0) ↔ (noneApplies rs ≡ true) →
         (pick b (r .number) (lowestIn rs) ≡ 0) ↔ ((not b && noneApplies rs) ≡ true)
@@ -58,32 +58,32 @@ none-lowest (r ∷ rs) h =
     go false n ih = ih
 
 -- the same as a test
-pub none-test : (rs : List Row) → positive rs ≡ true → eqb (lowestIn rs) 0 ≡ noneApplies rs
+pub none-test : (rs : List NumberRow) → positive rs ≡ true → eqb (lowestIn rs) 0 ≡ noneApplies rs
 unfolding lowestIn noneApplies every
 none-test [] h = refl
 none-test (r ∷ rs) h =
-    go (r .applies) (not-true (eqb (r .number) 0) (every-first (λ (r : Row). not (eqb (r .number) 0)) r rs h))
-    (none-test rs (every-rest (λ (r : Row). not (eqb (r .number) 0)) r rs h))
+    go (r .applies) (not-true (eqb (r .number) 0) (every-first (λ (r : NumberRow). not (eqb (r .number) 0)) r rs h))
+    (none-test rs (every-rest (λ (r : NumberRow). not (eqb (r .number) 0)) r rs h))
   where
     go : (b : Bool) → eqb (r .number) 0 ≡ false → eqb (lowestIn rs) 0 ≡ noneApplies rs → eqb (pick b (r .number) (lowestIn rs)) 0 ≡ (not b && noneApplies rs)
     go true n ih = n
     go false n ih = ih
 
 -- then no row does
-pub each-off : (i : ℕ) (rs : List Row) → noneApplies rs ≡ true → getD rs i (row 0 false) .applies ≡ false
+pub each-off : (i : ℕ) (rs : List NumberRow) → noneApplies rs ≡ true → getD rs i (row 0 false) .applies ≡ false
 unfolding noneApplies
 each-off i [] h = refl
-each-off zero (r ∷ rs) h = not-true (r .applies) (every-first (λ (r : Row). not (r .applies)) r rs h)
-each-off (suc i) (r ∷ rs) h = each-off i rs (every-rest (λ (r : Row). not (r .applies)) r rs h)
+each-off zero (r ∷ rs) h = not-true (r .applies) (every-first (λ (r : NumberRow). not (r .applies)) r rs h)
+each-off (suc i) (r ∷ rs) h = each-off i rs (every-rest (λ (r : NumberRow). not (r .applies)) r rs h)
 
 -- ---- two lists of rows
 
-pub lowest-append : (rs qs : List Row) → positive rs ≡ true → lowestIn (rs ++ qs) ≡ pick (eqb (lowestIn rs) 0) (lowestIn qs) (lowestIn rs)
+pub lowest-append : (rs qs : List NumberRow) → positive rs ≡ true → lowestIn (rs ++ qs) ≡ pick (eqb (lowestIn rs) 0) (lowestIn qs) (lowestIn rs)
 unfolding lowestIn
 lowest-append [] qs h = refl
 lowest-append (r ∷ rs) qs h =
-    go (r .applies) (not-true (eqb (r .number) 0) (every-first (λ (r : Row). not (eqb (r .number) 0)) r rs h))
-    (lowest-append rs qs (every-rest (λ (r : Row). not (eqb (r .number) 0)) r rs h))
+    go (r .applies) (not-true (eqb (r .number) 0) (every-first (λ (r : NumberRow). not (eqb (r .number) 0)) r rs h))
+    (lowest-append rs qs (every-rest (λ (r : NumberRow). not (eqb (r .number) 0)) r rs h))
   where
     go : (b : Bool) → eqb (r .number) 0 ≡ false → lowestIn (rs ++ qs) ≡ pick (eqb (lowestIn rs) 0) (lowestIn qs) (lowestIn rs) →
         pick b (r .number) (lowestIn (rs ++ qs)) ≡ pick (eqb (pick b (r .number) (lowestIn rs)) 0) (lowestIn qs) (pick b (r .number) (lowestIn rs))
@@ -92,17 +92,17 @@ lowest-append (r ∷ rs) qs h =
 
 -- ---- a call's number
 
-among : (rs : List Row) → (lowestIn rs ≡ 0 → ⊥) → In (lowestIn rs) (map (λ (r : Row). r .number) rs)
+among : (rs : List NumberRow) → (lowestIn rs ≡ 0 → ⊥) → In (lowestIn rs) (map (λ (r : NumberRow). r .number) rs)
 unfolding lowestIn
 among [] n = absurd (n refl)
 among (r ∷ rs) n = go (r .applies) n (among rs)
   where
-    go : (b : Bool) → (pick b (r .number) (lowestIn rs) ≡ 0 → ⊥) → ((lowestIn rs ≡ 0 → ⊥) → In (lowestIn rs) (map (λ (r : Row). r .number) rs)) →
-        In (pick b (r .number) (lowestIn rs)) (r .number ∷ map (λ (r : Row). r .number) rs)
+    go : (b : Bool) → (pick b (r .number) (lowestIn rs) ≡ 0 → ⊥) → ((lowestIn rs ≡ 0 → ⊥) → In (lowestIn rs) (map (λ (r : NumberRow). r .number) rs)) →
+        In (pick b (r .number) (lowestIn rs)) (r .number ∷ map (λ (r : NumberRow). r .number) rs)
     go true n ih = inl refl
     go false n ih = inr (ih n)
 
-pub numbered : (n : ℕ) (rs : List Row) → positive rs ≡ true → n ≡ lowestIn rs → Numbered n rs
+pub numbered : (n : ℕ) (rs : List NumberRow) → positive rs ≡ true → n ≡ lowestIn rs → Numbered n rs
 numbered n rs p e =
     let z = none-lowest rs p in
     record {

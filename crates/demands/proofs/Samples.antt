@@ -14,7 +14,7 @@ use Rattle.demands.specs.Calls.{library}
 use Rattle.demands.specs.Message.{isQuiet, wholeOf}
 use Rattle.demands.specs.Board.{dueHeaders}
 use Rattle.demands.specs.Numbers.{noneApplies, conversionRows, isBoard, emptiesIn}
-use Rattle.demands.specs.Runs.{afterOffers, handsFrom}
+use Rattle.demands.specs.Runs.{afterOffers, handOuts}
 use Rattle.demands.specs.StandIns.{sample, other, bench, headerOf, noneHeld, oneHeld, twoDue, nothingAfterFirst}
 use Rattle.demands.proofs.Opens.{computing}
 
@@ -97,6 +97,6 @@ pub both-due : dueHeaders (boardOf twoDue) ≡ headerOf "CEM" ∷ (headerOf "TOR
 unfolding computing
 both-due = refl
 
-pub only-first : handsFrom nothingAfterFirst 2 twoDue ≡ headerOf "CEM" ∷ []
+pub only-first : handOuts nothingAfterFirst 2 twoDue ≡ headerOf "CEM" ∷ []
 unfolding computing
 only-first = refl

@@ -18,7 +18,7 @@ use Rattle.octets.specs.Text.{bytes}
 use Rattle.told.specs.Values.{isNone}
 use Rattle.convert.specs.Convert.{Given, nothing}
 use Rattle.board.specs.Rules.{boardOf}
-use Rattle.offers.specs.Offer.{Offering}
+use Rattle.offers.specs.Offer.{MessageOffering}
 use Rattle.demands.specs.Calls.{Calls, library}
 use Rattle.demands.specs.Message.{isQuiet, wholeOf}
 use Rattle.demands.specs.Numbers.{noneApplies, conversionRows}
@@ -72,7 +72,7 @@ one-header-rejected one d =
 -- ---- offers
 
 -- b, as it was, has grown by what an offer says
-abbrev Grows : List ℕ → Offering → Type 0
+abbrev Grows : List ℕ → MessageOffering → Type 0
 Grows b o = length (boardOf b) ≡ length (boardOf b) + o .answer .added
 
 pub writes-nothing-rejected : Demand3 writesNothing → ⊥
@@ -81,7 +81,7 @@ writes-nothing-rejected d =
     omega (arith, grows)
 
 -- the bytes of an offer have grown by so many, where it answers 0
-abbrev GrowsBy : ℕ → List ℕ → Offering → Type 0
+abbrev GrowsBy : ℕ → List ℕ → MessageOffering → Type 0
 GrowsBy count b o = length (boardOf (o .bytes)) ≡ length (boardOf b) + pick (eqb (o .answer .number) 0) count 0
 
 -- one message is offered twice, and the board grows once

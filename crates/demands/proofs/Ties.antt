@@ -38,7 +38,7 @@ use Rattle.board.proofs.hand_out.Reads as hand-out
 use Rattle.board.proofs.list as list
 use Rattle.board.proofs.list_rows.Reads as list-rows
 use Rattle.board.proofs.Walks.{said}
-use Rattle.offers.specs.Offer.{Offering}
+use Rattle.offers.specs.Offer.{MessageOffering}
 use Rattle.offers.specs.declared.Offered.{Offered}
 use Rattle.offers.proofs.offer.Reads as offer
 use Rattle.report.specs.Program.{printed, programOf}
@@ -113,7 +113,7 @@ host-write-is-writing κs a x r p = p
 -- ---- boards
 
 -- of a message to a board
-abbrev offered : Slices 2 → Offering
+abbrev offered : Slices 2 → MessageOffering
 offered a = library .offering (now (a .0)) (now (a .1 .0))
 
 pub offer-is-offering : (κs : Lifetimes 2) (a x : Slices 2) (r : Offered) → offer.Learnt κs a r x → (r ≡ offered a .answer) × (now (x .0) ≡ offered a .bytes)

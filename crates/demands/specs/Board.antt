@@ -77,10 +77,10 @@ pub record Due (b : List (List ℕ)) (h : List ℕ) : Type 0 where
   pub not-aired : (a : List ℕ) → In a b → kind a ≡ 3 → header a ≡ h → ⊥
 
 -- the index of the first that passes, counted from 0
-abbrev pub indexOf : (List ℕ → Bool) → List (List ℕ) → ℕ
-indexOf f [] = zero
-indexOf f (r ∷ rs) = pick (f r) zero (suc (indexOf f rs))
+abbrev pub firstIndex : (List ℕ → Bool) → List (List ℕ) → ℕ
+firstIndex f [] = zero
+firstIndex f (r ∷ rs) = pick (f r) zero (suc (firstIndex f rs))
 
 -- the index of the smallest notice that makes a header due, and how many notices not withdrawn carry it
 abbrev pub rowOf : List (List ℕ) → List ℕ → Row
-rowOf b h = record { index = indexOf (makesDue b h) b; count = length (passing (carriesIt b h) b) }
+rowOf b h = record { index = firstIndex (makesDue b h) b; count = length (passing (carriesIt b h) b) }

@@ -9,8 +9,8 @@ use Rattle.convert.specs.Convert.{Outcome}
 use Rattle.convert.specs.WorkingConvert.{convertOf}
 use Rattle.board.specs.Calls.{Handing, Listing}
 use Rattle.board.specs.WorkingCalls.{handOf, listOf}
-use Rattle.offers.specs.Offer.{Offering}
-use Rattle.offers.specs.WorkingOffer.{offerOf}
+use Rattle.offers.specs.Offer.{MessageOffering}
+use Rattle.offers.specs.WorkingOffer.{messageOffer}
 
 -- what writing a header answers, and the output after it
 pub record Writing : Type 0 where
@@ -21,7 +21,7 @@ pub record Calls : Type 0 where
   -- converting the message s for a station, into outputs of these lengths
   pub conversion : (s station : List ℕ) (header text uri : ℕ) → Outcome
   -- offering the message s to the board b
-  pub offering : (b s : List ℕ) → Offering
+  pub offering : (b s : List ℕ) → MessageOffering
   -- a hand-out of the board b
   pub handing : (b : List ℕ) → Handing
   -- the list of the board b into so many rows
@@ -35,7 +35,7 @@ pub record Calls : Type 0 where
 abbrev pub library : Calls
 library = record {
   conversion = convertOf;
-  offering = offerOf;
+  offering = messageOffer;
   handing = handOf;
   listing = listOf;
   reading = readOf;

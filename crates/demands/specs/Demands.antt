@@ -13,12 +13,12 @@ use Rattle.convert.specs.Convert.{nothing}
 use Rattle.records.specs.Record.{pad, aired}
 use Rattle.ledger.specs.Sorted.{In, Sorted, insert, insertAll}
 use Rattle.board.specs.Rules.{boardOf}
-use Rattle.told.specs.Values.{firstOf}
+use Rattle.told.specs.Values.{firstValue}
 use Rattle.demands.specs.Calls.{Calls, Writing}
 use Rattle.demands.specs.Message.{isQuiet, headerParts, wholeOf}
-use Rattle.demands.specs.Board.{ownHeader, messageRecords, dueHeaders, makesDue, indexOf, rowOf}
+use Rattle.demands.specs.Board.{ownHeader, messageRecords, dueHeaders, makesDue, firstIndex, rowOf}
 use Rattle.demands.specs.Numbers.{Numbered, noneApplies, fieldBeside, conversionRows, isBoard, emptiesIn, offerRows, handOutRows, listRows, readRows, writeRows}
-use Rattle.demands.specs.Runs.{Empty, afterOffers, NoneFull, Takes, CarriedBy, handsFrom, Call, handedOut, Once}
+use Rattle.demands.specs.Runs.{Empty, afterOffers, NoneFull, Takes, CarriedBy, handOuts, BoardCall, handedOut, Once}
 
 -- Bad input gets the refusal number that document 01 gives, no call is refused where none of its numbers applies, and a refused call changes no lent byte and no
 -- lent row: it returns its number, and beside 7 its field, zeros elsewhere, and writes nothing.
@@ -65,8 +65,8 @@ pub record Demand3 (c : Calls) : Type 0 where
   -- a message is taken if its offer answers 0
   pub taken-exactly : (b m : List ℕ) → isBoard b ≡ true → (c .offering b m .answer .number ≡ 15 → ⊥) → (c .offering b m .answer .number ≡ 0) ↔ Takes m
   -- a hand-out adds the aired record of the first due header, and returns the index of the smallest notice that makes it due
-  pub hand-out-adds : (b : List ℕ) → c .handing b .answer .number ≡ 0 → boardOf (c .handing b .bytes) ≡ insert (aired (firstOf (dueHeaders (boardOf b)))) (boardOf b)
-  pub hand-out-index : (b : List ℕ) → c .handing b .answer .number ≡ 0 → c .handing b .answer .index ≡ indexOf (makesDue (boardOf b) (firstOf (dueHeaders (boardOf b)))) (boardOf b)
+  pub hand-out-adds : (b : List ℕ) → c .handing b .answer .number ≡ 0 → boardOf (c .handing b .bytes) ≡ insert (aired (firstValue (dueHeaders (boardOf b)))) (boardOf b)
+  pub hand-out-index : (b : List ℕ) → c .handing b .answer .number ≡ 0 → c .handing b .answer .index ≡ firstIndex (makesDue (boardOf b) (firstValue (dueHeaders (boardOf b)))) (boardOf b)
   -- the list gives one row per due header, in header order, and returns their number
   pub list-rows : (b : List ℕ) (rows : ℕ) → c .listing b rows .answer .number ≡ 0 →
       (c .listing b rows .rows ≡ map (rowOf (boardOf b)) (dueHeaders (boardOf b))) × (c .listing b rows .answer .count ≡ length (dueHeaders (boardOf b)))
@@ -80,9 +80,9 @@ pub record Demand3 (c : Calls) : Type 0 where
   -- A header is then due exactly if a taken message carried it whose sender, identifier and time no taken Update or Cancel names.
   pub due-exactly : (b : List ℕ) → Empty b → (ms : List (List ℕ)) → NoneFull c ms b → (h : List ℕ) → In h (dueHeaders (boardOf (afterOffers c ms b))) ↔ CarriedBy ms h
   -- Hand-outs, while there is room, then give each due header once, in byte order.
-  pub in-order : (b : List ℕ) → isBoard b ≡ true → (n : ℕ) → handsFrom c n b ≡ take (min n (emptiesIn b)) (dueHeaders (boardOf b))
+  pub in-order : (b : List ℕ) → isBoard b ≡ true → (n : ℕ) → handOuts c n b ≡ take (min n (emptiesIn b)) (dueHeaders (boardOf b))
   -- Over any mixture of offers and hand-outs on a board that began empty, no header is handed out twice.
-  pub never-twice : (b : List ℕ) → Empty b → (cs : List Call) → Once (handedOut c cs b)
+  pub never-twice : (b : List ℕ) → Empty b → (cs : List BoardCall) → Once (handedOut c cs b)
 
 pub record Demands (c : Calls) : Type 0 where
   pub first : Demand1 c

@@ -16,7 +16,7 @@ use Rattle.header.specs.Header.{headerBytes}
 use Rattle.markup.specs.Tree.{Forest, nil, One, one, none}
 use Rattle.markup.specs.Document.{docAt}
 use Rattle.gather.specs.Read.{named}
-use Rattle.told.specs.Values.{isNone, firstOf, is, valueOf, valuesNamed, eventCodes, parameters, geocodes, selectedIn, audioIn}
+use Rattle.told.specs.Values.{isNone, firstValue, is, valueOf, valuesNamed, eventCodes, parameters, geocodes, selectedIn, audioIn}
 use Rattle.message.specs.Root.{prefixOf}
 use Rattle.sentence.specs.Words.{sentenceOf}
 use Rattle.wording.specs.Text.{textOf}
@@ -88,7 +88,7 @@ locations s = valuesNamed "SAME" (geocodes s (prefix s) (info s))
 
 -- ORG: first EAS-ORG parameter; absent means CIV
 abbrev pub originator : List ℕ → List ℕ
-originator s = firstOf (valuesNamed "EAS-ORG" (parameters s (prefix s) (info s)) ++ (bytes "CIV" ∷ []))
+originator s = firstValue (valuesNamed "EAS-ORG" (parameters s (prefix s) (info s)) ++ (bytes "CIV" ∷ []))
 
 -- a Cancel with no info, no SAME eventCode, no SAME geocode or no expires is quiet
 abbrev pub isQuiet : List ℕ → Bool
@@ -110,7 +110,7 @@ expiresSeconds s = instantIn (timeOf (expires s))
 unfoldable pub headerBody : List ℕ → Body
 headerBody s = record {
   originator = known (originatorOf (originator s));
-  event = firstOf (events s);
+  event = firstValue (events s);
   count = min 31 (length (locations s));
   locations = padded (map value (take 31 (locations s)));
   period = periodOf (expiresSeconds s - sentSeconds s);
@@ -126,11 +126,11 @@ headerParts s station = record { body = headerBody s; station = station }
 -- the sentence of these parts, with the first EASText, or senderName, description and instruction
 abbrev pub alertText : List ℕ → List ℕ
 alertText s =
-    textOf (sentenceOf (headerBody s)) (firstOf (valuesNamed "EASText" (parameters s (prefix s) (info s)))) (senderName s) (description s) (instruction s)
+    textOf (sentenceOf (headerBody s)) (firstValue (valuesNamed "EASText" (parameters s (prefix s) (info s)))) (senderName s) (description s) (instruction s)
 
 -- must-carry: the first EAS-Must-Carry parameter is `True`
 abbrev pub mustCarry : List ℕ → Bool
-mustCarry s = is "True" (firstOf (valuesNamed "EAS-Must-Carry" (parameters s (prefix s) (info s))))
+mustCarry s = is "True" (firstValue (valuesNamed "EAS-Must-Carry" (parameters s (prefix s) (info s))))
 
 -- all that a message gives that answers 0 and is not quiet
 unfoldable pub wholeOf : List ℕ → List ℕ → Given

@@ -17,31 +17,31 @@ use Rattle.fields.specs.References.{senderOf, identifierOf, sentOf, words}
 use Rattle.records.specs.Record.{zeros, recordOk}
 use Rattle.ledger.specs.Sorted.{In, ascending}
 use Rattle.board.specs.Rules.{boardOf}
-use Rattle.told.specs.Values.{isNone, firstOf, is, isOne, once, isSix, infoSound, languagesSound}
+use Rattle.told.specs.Values.{isNone, firstValue, is, isOne, once, isSix, infoSound, languagesSound}
 use Rattle.message.specs.Root.{rootOk}
 use Rattle.demands.specs.Message.{prefix, alert, info, identifier, sender, sent, status, msgType, scope, references, expires, events, locations, originator, isQuiet, sentSeconds, expiresSeconds}
 use Rattle.demands.specs.Board.{messageRecords, newTo, dueHeaders}
 
-pub record Row : Type 0 where
+pub record NumberRow : Type 0 where
   pub number : ℕ
   pub applies : Bool
 
-abbrev pub row : ℕ → Bool → Row
+abbrev pub row : ℕ → Bool → NumberRow
 row n b = record { number = n; applies = b }
 
 -- lowest applicable wins; 0 where none applies
-unfoldable pub lowestIn : List Row → ℕ
+unfoldable pub lowestIn : List NumberRow → ℕ
 lowestIn [] = 0
 lowestIn (r ∷ rs) = pick (r .applies) (r .number) (lowestIn rs)
 
-unfoldable pub noneApplies : List Row → Bool
+unfoldable pub noneApplies : List NumberRow → Bool
 noneApplies rs = every (λ r. not (r .applies)) rs
 
 -- a call's number: the lowest of its rows that applies, in the order in which it asks them; 0 exactly if none does; and else one of its own numbers
-pub record Numbered (n : ℕ) (rs : List Row) : Type 0 where
+pub record Numbered (n : ℕ) (rs : List NumberRow) : Type 0 where
   pub lowest : n ≡ lowestIn rs
   pub zero-exactly : (n ≡ 0) ↔ (noneApplies rs ≡ true)
-  pub own : (n ≡ 0 → ⊥) → In n (map (λ (r : Row). r .number) rs)
+  pub own : (n ≡ 0 → ⊥) → In n (map (λ (r : NumberRow). r .number) rs)
 
 -- ---- what the numbers ask of a message
 
@@ -70,7 +70,7 @@ areGroups v =
 
 -- the fields at fault: 1 identifier, 2 sender, 3 sent, 4 status, 5 msgType, 6 scope, each exactly once, not empty, its value one that it may have; 7 any other
 -- read leaf
-abbrev pub fieldRows : List ℕ → List Row
+abbrev pub fieldRows : List ℕ → List NumberRow
 fieldRows s =
     row 1 (not (once s (prefix s) "identifier" (alert s) && isIdentity (identifier s)))
     ∷ row 2 (not (once s (prefix s) "sender" (alert s) && isIdentity (sender s)))
@@ -87,7 +87,7 @@ fieldBeside n s = pick (eqb n 7) (lowestIn (fieldRows s)) 0
 
 -- 4 message length; 5 not of the subset; 6 root; 7 a read leaf at fault; 8 status not Actual, or scope not Public; 9 msgType Ack or Error;
 -- 10 references missing, malformed or over 16, asked of Update and Cancel
-abbrev pub messageRows : List ℕ → List Row
+abbrev pub messageRows : List ℕ → List NumberRow
 messageRows s =
     row 4 (not (between 1 32768 (length s)))
     ∷ row 5 (not (isRead (docAt s)))
@@ -104,16 +104,16 @@ isEvent v = every holds (eqb (length v) 3 ∷ every isCapital v ∷ [])
 
 -- a quiet Cancel isn't asked 11 to 14: 11 SAME event absent, twice or malformed; 12 originator; 13 SAME location absent or malformed;
 -- 14 expires absent, malformed or not after sent
-abbrev pub headerRows : List ℕ → List Row
+abbrev pub headerRows : List ℕ → List NumberRow
 headerRows s =
-    row 11 (not (isQuiet s) && not (eqb (length (events s)) 1 && isEvent (firstOf (events s))))
+    row 11 (not (isQuiet s) && not (eqb (length (events s)) 1 && isEvent (firstValue (events s))))
     ∷ row 12 (not (isQuiet s) && not (isOne ("PEP" ∷ "EAS" ∷ "WXR" ∷ "CIV" ∷ []) (originator s)))
     ∷ row 13 (not (isQuiet s) && not (not (isNone (locations s)) && every isSix (locations s)))
     ∷ row 14 (not (isQuiet s) && not (isTime (timeOf (expires s)) && ltb (sentSeconds s) (expiresSeconds s)))
     ∷ []
 
 -- 4 to 14
-abbrev pub takenRows : List ℕ → List Row
+abbrev pub takenRows : List ℕ → List NumberRow
 takenRows s = messageRows s ++ headerRows s
 
 -- ---- conversion asks 2 to 14
@@ -123,7 +123,7 @@ abbrev pub isStation : List ℕ → Bool
 isStation t = every holds (eqb (length t) 8 ∷ every (λ b. every holds (between 32 126 b ∷ not (eqb b 45) ∷ not (eqb b 43) ∷ [])) t ∷ [])
 
 -- 2 lent output short: header 252, text 1,800, uri 1,024; 3 station
-abbrev pub conversionRows : List ℕ → List ℕ → ℕ → ℕ → ℕ → List Row
+abbrev pub conversionRows : List ℕ → List ℕ → ℕ → ℕ → ℕ → List NumberRow
 conversionRows s station header text uri =
     row 2 (not (every holds (leb 252 header ∷ leb 1800 text ∷ leb 1024 uri ∷ [])))
     ∷ row 3 (not (isStation station))
@@ -148,7 +148,7 @@ abbrev pub emptiesIn : List ℕ → ℕ
 emptiesIn b = length b / 384 - length (boardOf b)
 
 -- 1 board length or content breaks the rules; 15 fewer empty records than must be added
-abbrev pub offerRows : List ℕ → List ℕ → List Row
+abbrev pub offerRows : List ℕ → List ℕ → List NumberRow
 offerRows b s =
     row 1 (not (isBoard b))
     ∷ (takenRows s
@@ -157,7 +157,7 @@ offerRows b s =
 -- ---- a hand-out of a board asks 1, 16, 15 in that order
 
 -- 16 nothing due
-abbrev pub handOutRows : List ℕ → List Row
+abbrev pub handOutRows : List ℕ → List NumberRow
 handOutRows b =
     row 1 (not (isBoard b))
     ∷ row 16 (isNone (dueHeaders (boardOf b)))
@@ -167,7 +167,7 @@ handOutRows b =
 -- ---- the list of a board, with so many rows lent, asks 1, 2
 
 -- 2 rows below the due count
-abbrev pub listRows : List ℕ → ℕ → List Row
+abbrev pub listRows : List ℕ → ℕ → List NumberRow
 listRows b rows =
     row 1 (not (isBoard b))
     ∷ row 2 (ltb rows (length (dueHeaders (boardOf b))))
@@ -176,11 +176,11 @@ listRows b rows =
 -- ---- a header
 
 -- reading one asks 17: header unreadable
-abbrev pub readRows : List ℕ → List Row
+abbrev pub readRows : List ℕ → List NumberRow
 readRows s = row 17 (not (headerForm s)) ∷ []
 
 -- writing one into an output of so many bytes asks 2, 3, 17: parts that no header has
-abbrev pub writeRows : ℕ → Parts → List Row
+abbrev pub writeRows : ℕ → Parts → List NumberRow
 writeRows room p =
     row 2 (not (leb 252 room))
     ∷ row 3 (not (isStation (p .station)))

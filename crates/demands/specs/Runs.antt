@@ -45,25 +45,25 @@ pub record CarriedBy (ms : List (List ℕ)) (h : List ℕ) : Type 0 where
 -- ---- hand-outs
 
 -- the header that a hand-out gives: that of the notice at the index answered; none where it is refused
-abbrev pub givenBy : Calls → List ℕ → List (List ℕ)
-givenBy c b = pick (eqb (c .handing b .answer .number) 0) (header (getD (boardOf b) (c .handing b .answer .index) []) ∷ []) []
+abbrev pub headerGiven : Calls → List ℕ → List (List ℕ)
+headerGiven c b = pick (eqb (c .handing b .answer .number) 0) (header (getD (boardOf b) (c .handing b .answer .index) []) ∷ []) []
 
 -- what n hand-outs give
-abbrev pub handsFrom : Calls → ℕ → List ℕ → List (List ℕ)
-handsFrom c zero b = []
-handsFrom c (suc n) b = givenBy c b ++ handsFrom c n (c .handing b .bytes)
+abbrev pub handOuts : Calls → ℕ → List ℕ → List (List ℕ)
+handOuts c zero b = []
+handOuts c (suc n) b = headerGiven c b ++ handOuts c n (c .handing b .bytes)
 
 -- ---- any mixture of offers and hand-outs
 
-pub data Call : Type 0 where
-  offers : List ℕ → Call
-  handsOut : Call
+pub data BoardCall : Type 0 where
+  offers : List ℕ → BoardCall
+  handsOut : BoardCall
 
 -- the headers that it hands out, in order
-abbrev pub handedOut : Calls → List Call → List ℕ → List (List ℕ)
+abbrev pub handedOut : Calls → List BoardCall → List ℕ → List (List ℕ)
 handedOut c [] b = []
 handedOut c (offers m ∷ cs) b = handedOut c cs (c .offering b m .bytes)
-handedOut c (handsOut ∷ cs) b = givenBy c b ++ handedOut c cs (c .handing b .bytes)
+handedOut c (handsOut ∷ cs) b = headerGiven c b ++ handedOut c cs (c .handing b .bytes)
 
 -- no header twice
 abbrev pub Once : List (List ℕ) → Type 0

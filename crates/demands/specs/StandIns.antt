@@ -18,15 +18,15 @@ use Rattle.board.specs.Rules.{boardOf}
 use Rattle.board.specs.WorkingRules.{encode}
 use Rattle.board.specs.Calls.{Handing}
 use Rattle.board.specs.WorkingCalls.{handRefused}
-use Rattle.offers.specs.Offer.{Offering}
+use Rattle.offers.specs.Offer.{MessageOffering}
 use Rattle.demands.specs.Calls.{Calls, library}
 use Rattle.demands.specs.Board.{some}
 
 -- ---- messages and boards
 
 -- the message under "Figures to hold", for this event
-abbrev pub messageOf : String → List ℕ
-messageOf event =
+abbrev pub sampleFor : String → List ℕ
+sampleFor event =
     bytes "<alert xmlns=\"urn:oasis:names:tc:emergency:cap:1.2\"><identifier>B1</identifier><sender>b@c</sender><sent>2010-04-05T14:00:30-04:00</sent>"
     ++ (bytes "<status>Actual</status><msgType>Alert</msgType><scope>Public</scope><info><eventCode><valueName>SAME</valueName><value>"
     ++ (bytes event
@@ -36,11 +36,11 @@ messageOf event =
 
 -- as it stands there
 abbrev pub sample : List ℕ
-sample = messageOf "CEM"
+sample = sampleFor "CEM"
 
 -- and with another event
 abbrev pub other : List ℕ
-other = messageOf "TOR"
+other = sampleFor "TOR"
 
 -- the header of such a message on a board, and its notice: sent 323,805,630 seconds after 2000 began
 abbrev pub headerOf : String → List ℕ
@@ -79,7 +79,7 @@ converting conversion = record {
 }
 
 -- but for its offers
-abbrev pub offeringBy : ((b s : List ℕ) → Offering) → Calls
+abbrev pub offeringBy : ((b s : List ℕ) → MessageOffering) → Calls
 offeringBy offering = record {
   conversion = library .conversion;
   offering = offering;

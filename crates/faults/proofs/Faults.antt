@@ -9,7 +9,7 @@ use lib.ListN.{length, set}
 use lib.Bits.{bitOr, or-step, or-zero-r}
 use lib.Count.{trailingZeros, under}
 use Rattle.octets.specs.Bytes.{pick}
-use Rattle.faults.specs.WorkingField.{bit, bitsOf, onward, lowest}
+use Rattle.faults.specs.WorkingField.{bit, bitsOf, oneOn, lowest}
 
 -- the lowest digit, and the rest
 pub lows : (bs : List Bool) (b : Bool) → bitsOf (b ∷ bs) % 2 ≡ bit b
@@ -30,7 +30,7 @@ field-is (suc k) (false ∷ bs) l some =
     let e : trailingZeros k (bitsOf bs) + 1 ≡ lowest bs = field-is k bs (le-of-suc-le-suc l) (λ z. some (omega (arith, z))) in
     ap₂ (λ (d m : ℕ). under d (trailingZeros k m) + 1) (lows bs false) (highs bs false) ∙ up (trailingZeros k (bitsOf bs)) (lowest bs) e
   where
-    up : (t m : ℕ) → t + 1 ≡ m → suc t + 1 ≡ onward m
+    up : (t m : ℕ) → t + 1 ≡ m → suc t + 1 ≡ oneOn m
     up t zero e = absurd (omega (arith, e))
     up t (suc m) e = omega (arith, e)
 
@@ -38,7 +38,7 @@ field-is (suc k) (false ∷ bs) l some =
 pub none-is : (bs : List Bool) → bitsOf bs ≡ 0 → lowest bs ≡ 0
 none-is [] z = refl
 none-is (true ∷ bs) z = absurd (omega (arith, z))
-none-is (false ∷ bs) z = ap onward (none-is bs (omega (arith, z)))
+none-is (false ∷ bs) z = ap oneOn (none-is bs (omega (arith, z)))
 
 -- a fault that is noted at its own bit
 pub noted-is : (bs : List Bool) (k : ℕ) → k < length bs → bitOr (bitsOf bs) (2 ^ k) ≡ bitsOf (set bs k true)

@@ -13,11 +13,11 @@ bitsOf [] = 0
 bitsOf (b ∷ bs) = bitsOf bs * 2 + bit b
 
 -- the lowest field at fault, counted from 1, or 0
-abbrev pub onward : ℕ → ℕ
-onward zero = zero
-onward (suc n) = suc (suc n)
+abbrev pub oneOn : ℕ → ℕ
+oneOn zero = zero
+oneOn (suc n) = suc (suc n)
 
 abbrev pub lowest : List Bool → ℕ
 lowest [] = 0
 lowest (true ∷ bs) = 1
-lowest (false ∷ bs) = onward (lowest bs)
+lowest (false ∷ bs) = oneOn (lowest bs)

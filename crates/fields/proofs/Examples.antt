@@ -6,8 +6,8 @@ use Rattle.octets.specs.Bytes.{every, between, oneOf, isDigit, isVisible}
 use Rattle.octets.specs.Digits.{valueFrom, inRange}
 use Rattle.octets.specs.Text.{bytes}
 use Rattle.clock.specs.Calendar.{divides, leap, yearDays, months, sum, monthDays, daysBefore, daysTo, dayNumber}
-use Rattle.clock.specs.Time.{isSign, signed, since2000, utc, within, timeOf}
-use Rattle.fields.specs.Fields.{isIdentity, identityOk}
+use Rattle.clock.specs.Time.{isSign, signed, since2000, utc, inSpan, timeOf}
+use Rattle.fields.specs.Fields.{isIdentityByte, identityOk}
 use Rattle.fields.specs.References.{upTo, behind, words}
 use Rattle.fields.specs.WorkingFields.{groupOk, referencesOk}
 
@@ -22,5 +22,5 @@ pub record Examples : Type 0 where
   pub no-offset : refers "b@c,B1,2010-04-05T18:00:30Z" ≡ false
 
 pub examples : Examples
-unfolding referencesOk words groupOk upTo behind identityOk isIdentity bytes timeOf inRange between every oneOf isDigit isVisible valueFrom isSign signed utc since2000 within dayNumber daysTo daysBefore monthDays months sum yearDays leap divides
+unfolding referencesOk words groupOk upTo behind identityOk isIdentityByte bytes timeOf inRange between every oneOf isDigit isVisible valueFrom isSign signed utc since2000 inSpan dayNumber daysTo daysBefore monthDays months sum yearDays leap divides
 examples = record { one = refl; two = refl; none = refl; space-inside = refl; no-offset = refl }

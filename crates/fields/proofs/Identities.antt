@@ -16,19 +16,19 @@ use Rattle.octets.proofs.Tests.{each-of, every-of, one-fails, every-step, every
 use Rattle.clock.specs.Time.{timeOf, isTime}
 use Rattle.clock.specs.declared.Time.{Time}
 use Rattle.clock.proofs.Times.{time-no}
-use Rattle.fields.specs.Fields.{isIdentity, identityOk}
+use Rattle.fields.specs.Fields.{isIdentityByte, identityOk}
 use Rattle.fields.proofs.Buffers.{cut}
 
 -- ---- identities
 
 abbrev pub identityTests : List ℕ → List Bool
-identityTests v = between 1 64 (length v) ∷ every isIdentity v ∷ []
+identityTests v = between 1 64 (length v) ∷ every isIdentityByte v ∷ []
 
 pub identity-no : (i : ℕ) (v : List ℕ) → getD (identityTests v) i true ≡ false → identityOk v ≡ false
 unfolding identityOk
 identity-no i v h = one-fails i (identityTests v) h
 
-pub identity-is : (v : List ℕ) → 1 ≤ length v → length v ≤ 64 → every isIdentity v ≡ true → identityOk v ≡ true
+pub identity-is : (v : List ℕ) → 1 ≤ length v → length v ≤ 64 → every isIdentityByte v ≡ true → identityOk v ≡ true
 unfolding identityOk
 identity-is v l h e = every-of (identityTests v) (between-is 1 64 (length v) l h, (e, tt))
 
@@ -40,18 +40,18 @@ pub identity-long : (v : List ℕ) → 64 < length v → identityOk v ≡ false
 identity-long v h = identity-no 0 v (above-between 1 64 (length v) h)
 
 -- byte by byte: what is left from index i on decides
-module _ (t : List ℕ) (i : ℕ) (so : every isIdentity (drop i t) ≡ every isIdentity t) where
-  next-byte : i < length t → every isIdentity t ≡ every isIdentity (getD t i 0 ∷ drop (i + 1) t)
-  next-byte h = sym so ∙ ap (λ (l : List ℕ). every isIdentity l) (tail-step t i h)
+module _ (t : List ℕ) (i : ℕ) (so : every isIdentityByte (drop i t) ≡ every isIdentityByte t) where
+  next-byte : i < length t → every isIdentityByte t ≡ every isIdentityByte (getD t i 0 ∷ drop (i + 1) t)
+  next-byte h = sym so ∙ ap (λ (l : List ℕ). every isIdentityByte l) (tail-step t i h)
 
-  pub byte-fails : i < length t → isIdentity (getD t i 0) ≡ false → every isIdentity t ≡ false
-  byte-fails h e = next-byte h ∙ every-stop isIdentity (getD t i 0) (drop (i + 1) t) e
+  pub byte-fails : i < length t → isIdentityByte (getD t i 0) ≡ false → every isIdentityByte t ≡ false
+  byte-fails h e = next-byte h ∙ every-stop isIdentityByte (getD t i 0) (drop (i + 1) t) e
 
-  pub byte-passes : i < length t → isIdentity (getD t i 0) ≡ true → every isIdentity (drop (i + 1) t) ≡ every isIdentity t
-  byte-passes h e = sym (next-byte h ∙ every-step isIdentity (getD t i 0) (drop (i + 1) t) e)
+  pub byte-passes : i < length t → isIdentityByte (getD t i 0) ≡ true → every isIdentityByte (drop (i + 1) t) ≡ every isIdentityByte t
+  byte-passes h e = sym (next-byte h ∙ every-step isIdentityByte (getD t i 0) (drop (i + 1) t) e)
 
-  pub bytes-end : length t ≤ i → every isIdentity t ≡ true
-  bytes-end h = sym so ∙ ap (λ (l : List ℕ). every isIdentity l) (drop-of-length-le t h) ∙ every-none isIdentity
+  pub bytes-end : length t ≤ i → every isIdentityByte t ≡ true
+  bytes-end h = sym so ∙ ap (λ (l : List ℕ). every isIdentityByte l) (drop-of-length-le t h) ∙ every-none isIdentityByte
 
 -- ---- times
 

@@ -6,7 +6,7 @@ use mathlib.Core.Bool.{Bool, true, false}
 use mathlib.Core.List.{List, [], _∷_}
 use Rattle.octets.specs.Bytes.{same}
 use Rattle.octets.specs.Text.{bytes}
-use Rattle.fields.specs.WorkingFields.{later, indexIn}
+use Rattle.fields.specs.WorkingFields.{placeOn, indexIn}
 
 -- r says whether the value v is the first name
 module _ (w : String) (ws : List String) (v : List ℕ) {r : Bool} (e : r ≡ same v (bytes w)) where
@@ -14,7 +14,7 @@ module _ (w : String) (ws : List String) (v : List ℕ) {r : Bool} (e : r ≡ sa
   unfolding indexIn
   named h = rw (sym e ∙ h)
 
-  pub not-named : r ≡ false → indexIn (w ∷ ws) v ≡ later (indexIn ws v)
+  pub not-named : r ≡ false → indexIn (w ∷ ws) v ≡ placeOn (indexIn ws v)
   unfolding indexIn
   not-named h = rw (sym e ∙ h)
 

@@ -10,18 +10,18 @@ use lib.ListN.{length}
 use Rattle.octets.specs.Bytes.{pick, same}
 use Rattle.octets.specs.Text.{bytes}
 use Rattle.words.specs.WorkingWords.{whichOf}
-use Rattle.fields.specs.WorkingFields.{later, indexIn}
+use Rattle.fields.specs.WorkingFields.{placeOn, indexIn}
 
 -- i is place k of n, counted from 1, and 0 past the last
 pub record Counted (n k i : ℕ) : Type 0 where
   pub inside : k < n → k + 1 ≡ i
   pub past : n ≤ k → 0 ≡ i
 
-step : (b : Bool) {n k i : ℕ} → Counted n k i → Counted (suc n) (pick b 0 (suc k)) (pick b 1 (later i))
+step : (b : Bool) {n k i : ℕ} → Counted n k i → Counted (suc n) (pick b 0 (suc k)) (pick b 1 (placeOn i))
 step true c = record { inside = λ _. refl; past = λ h. absurd (omega arith) }
 step false {n} {k} {i} c = record {
-  inside = λ h. add-one (suc k) ∙ sym (ap later (add-one k)) ∙ ap later (c .inside (omega arith));
-  past = λ h. ap later (c .past (omega arith));
+  inside = λ h. add-one (suc k) ∙ sym (ap placeOn (add-one k)) ∙ ap placeOn (c .inside (omega arith));
+  past = λ h. ap placeOn (c .past (omega arith));
 }
 
 abbrev pub named : List String → List (List ℕ)

@@ -21,7 +21,7 @@ use Rattle.values.specs.declared.Got.the-variants.{Is, Done}
 use Rattle.values.proofs.Texts.{text-past}
 use Rattle.values.proofs.Steps.{step-more, step-done}
 use Rattle.fields.specs.References.{upTo, behind, longer, words}
-use Rattle.fields.specs.WorkingWords.{wordIn, onward, nextFrom, nextWord, wordAt}
+use Rattle.fields.specs.WorkingWords.{wordIn, wordOn, nextFrom, nextWord, wordAt}
 use Rattle.fields.specs.declared.Word.{Word}
 use Rattle.fields.proofs.Partings.{upTo-stop, upTo-more, upTo-none, behind-stop, behind-more, behind-none}
 
@@ -74,20 +74,20 @@ module _ (s : List ℕ) where
   unfolding nextFrom
   next-none i = refl
 
-  next-turn : (n i : ℕ) (g : Got) → stepAt s i ≡ g → nextFrom s (suc n) i ≡ onward (length s) g (nextFrom s n)
+  next-turn : (n i : ℕ) (g : Got) → stepAt s i ≡ g → nextFrom s (suc n) i ≡ wordOn (length s) g (nextFrom s n)
   unfolding nextFrom
-  next-turn n i g e = ap (λ (x : Got). onward (length s) x (nextFrom s n)) e
+  next-turn n i g e = ap (λ (x : Got). wordOn (length s) x (nextFrom s n)) e
 
   next-space : (n i c j : ℕ) → stepAt s i ≡ Is c j → eqb c 32 ≡ true → nextFrom s (suc n) i ≡ j
-  unfolding onward
+  unfolding wordOn
   next-space n i c j e b = next-turn n i (Is c j) e ∙ picked (eqb c 32) j (nextFrom s n j) b
 
   next-char : (n i c j : ℕ) → stepAt s i ≡ Is c j → eqb c 32 ≡ false → nextFrom s (suc n) i ≡ nextFrom s n j
-  unfolding onward
+  unfolding wordOn
   next-char n i c j e b = next-turn n i (Is c j) e ∙ passed-over (eqb c 32) j (nextFrom s n j) b
 
   next-done : (n i : ℕ) → stepAt s i ≡ Done → nextFrom s n i ≡ length s
-  unfolding onward
+  unfolding wordOn
   next-done zero i e = next-none i
   next-done (suc n) i e = next-turn n i Done e
 

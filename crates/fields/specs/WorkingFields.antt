@@ -12,14 +12,14 @@ use Rattle.clock.specs.Time.{timeOf, isTime}
 use Rattle.fields.specs.Fields.{identityOk}
 use Rattle.fields.specs.References.{senderOf, identifierOf, sentOf, words}
 
-abbrev pub later : ℕ → ℕ
-later zero = 0
-later (suc n) = suc (suc n)
+abbrev pub placeOn : ℕ → ℕ
+placeOn zero = 0
+placeOn (suc n) = suc (suc n)
 
 -- the place of a value among these, counted from 1; 0 where it is none of them
 unfoldable pub indexIn : List String → List ℕ → ℕ
 indexIn [] v = 0
-indexIn (w ∷ ws) v = pick (same v (bytes w)) 1 (later (indexIn ws v))
+indexIn (w ∷ ws) v = pick (same v (bytes w)) 1 (placeOn (indexIn ws v))
 
 -- the values of CAP 1.2 for status and scope
 abbrev pub statuses : List String

@@ -15,14 +15,14 @@ abbrev pub wordIn : List ℕ → ℕ → List ℕ
 wordIn s i = upTo 32 (restAt s i)
 
 -- a step on: behind a space, and e at the value's end
-unfoldable pub onward : ℕ → Got → (ℕ → ℕ) → ℕ
-onward e (Is c j) rest = pick (eqb c 32) j (rest j)
-onward e Done rest = e
+unfoldable pub wordOn : ℕ → Got → (ℕ → ℕ) → ℕ
+wordOn e (Is c j) rest = pick (eqb c 32) j (rest j)
+wordOn e Done rest = e
 
 -- behind the first space, n characters on at most
 unfoldable pub nextFrom : List ℕ → ℕ → ℕ → ℕ
 nextFrom s zero i = length s
-nextFrom s (suc n) i = onward (length s) (stepAt s i) (nextFrom s n)
+nextFrom s (suc n) i = wordOn (length s) (stepAt s i) (nextFrom s n)
 
 -- where the next word begins, and the message's end if there is none; each character takes a byte at least
 unfoldable pub nextWord : List ℕ → ℕ → ℕ

@@ -8,7 +8,7 @@ ghost use lib.ListN.{length, drop};
 ghost use lib.Seq.{sets};
 ghost use Rattle.clock.specs.Time.{timeOf};
 ghost use Rattle.values.specs.Value.{valueAt};
-ghost use Rattle.fields.specs.Fields.{isIdentity, identityOk};
+ghost use Rattle.fields.specs.Fields.{isIdentityByte, identityOk};
 ghost use Rattle.fields.specs.WorkingFields.{indexIn, statuses, scopes, msgTypeIn};
 ghost use Rattle.fields.specs.References.{upTo};
 ghost use Rattle.fields.specs.WorkingFields.{groupOk, referencesOk};
@@ -34,7 +34,7 @@ pub enum MsgType {
 // ---- sender and identifier
 
 fn is_identity_byte(b: u8) -> bool
-    ensures { λ r. ⌜ r ≡ isIdentity b ⌝ }
+    ensures { λ r. ⌜ r ≡ isIdentityByte b ⌝ }
 {
     if b == 44 {
         return false;

@@ -12,7 +12,7 @@ use Rattle.pieces.proofs.Goes.{Goes}
 use Rattle.pieces.proofs.Words.{differ, at-is}
 use Rattle.tags.specs.Tags.{openAt, closeAt}
 use Rattle.tags.specs.declared.Open.the-variants.{Full, Empty, Shut}
-use Rattle.markup.specs.Tree.{Tag, Forest, nil, text, elem, One, one, none, Held, held, bad, put, elemAt, contentAt}
+use Rattle.markup.specs.Tree.{Tag, Forest, nil, text, elem, One, one, none, Held, held, bad, inFront, elemAt, contentAt}
 use Rattle.markup.proofs.Goes.{OneGoes, elem-goes}
 use Rattle.markup.proofs.Elements.{elem-deep, elem-shut, elem-empty, elem-bad, elem-open, elem-full}
 use Rattle.markup.proofs.Reading.{Reading, reading-starts, reading-text, reading-note, reading-child, reading-close, reading-bad, reading-none}
@@ -21,13 +21,13 @@ use Rattle.reads.specs.declared.State.{State}
 use Rattle.reads.specs.Names.{contextOf}
 use Rattle.gather.specs.declared.Touch.the-variants.{Holds}
 use Rattle.gather.specs.declared.Got.{Got}
-use Rattle.gather.specs.WorkingVisit.{touchIn, left, placeOf, visit, refused, settled, finished, gotOne, gotHeld}
+use Rattle.gather.specs.WorkingVisit.{touchIn, left, leafPlace, visit, nothingGot, settled, finished, gotOne, gotHeld}
 
 -- an answer with an end counts as it stands, and one without is a refusal
 pub settled-at : (n : ℕ) (r : Got) (j : ℕ) → r .end ≡ At j → settled n r ≡ r
 settled-at n r j q = rw q
 
-pub settled-no : (n : ℕ) (r : Got) → r .end ≡ No → settled n r ≡ refused n
+pub settled-no : (n : ℕ) (r : Got) → r .end ≡ No → settled n r ≡ nothingGot n
 settled-no n r q = rw q
 
 module _ (s p : List ℕ) (c : Context) where
@@ -38,13 +38,13 @@ module _ (s p : List ℕ) (c : Context) where
   abbrev pub skips : ℕ → ℕ → State → State
   skips i j st = st
 
-  pub got-text : (st : State) (i j : ℕ) (h : Held) → gotHeld s p c st (put (text i j) h) ≡ gotHeld s p c st h
-  unfolding gotHeld put visit
+  pub got-text : (st : State) (i j : ℕ) (h : Held) → gotHeld s p c st (inFront (text i j) h) ≡ gotHeld s p c st h
+  unfolding gotHeld inFront visit
   got-text st i j (held t k) = refl
   got-text st i j bad = refl
 
-  pub got-elem : (st : State) (g : Tag) (kids : Forest) (h : Held) → gotHeld s p c st (put (elem g kids) h) ≡ gotHeld s p c (adds g kids st) h
-  unfolding gotHeld put visit
+  pub got-elem : (st : State) (g : Tag) (kids : Forest) (h : Held) → gotHeld s p c st (inFront (elem g kids) h) ≡ gotHeld s p c (adds g kids st) h
+  unfolding gotHeld inFront visit
   got-elem st g kids (held t k) = refl
   got-elem st g kids bad = refl
 
@@ -67,7 +67,7 @@ module _ (s p : List ℕ) (c : Context) where
       unfolding gotHeld visit
       passing-close e w = reading-close (gotHeld s p c) skips adds got-text got-elem s d at st₀ i st e w
 
-      pub passing-bad : pieceAt s i ≡ Bad → Passing d at st₀ i st → refused (length s) ≡ gotHeld s p c st₀ (contentAt s d at)
+      pub passing-bad : pieceAt s i ≡ Bad → Passing d at st₀ i st → nothingGot (length s) ≡ gotHeld s p c st₀ (contentAt s d at)
       unfolding gotHeld
       passing-bad e w = reading-bad (gotHeld s p c) skips adds got-text got-elem s d at st₀ i st e w
 
@@ -92,11 +92,11 @@ module _ (s p : List ℕ) (c : Context) where
             go (one x kids k) u y = reading-child (gotHeld s p c) skips adds got-text got-elem s d at st₀ i st j x kids e (u ∙ ap (one x kids) (at-is y)) w
             go none u y = absurd (differ y)
 
-        pub passing-none : pieceAt s i ≡ Child → r .end ≡ No → Passing d at st₀ i st → refused (length s) ≡ gotHeld s p c st₀ (contentAt s d at)
+        pub passing-none : pieceAt s i ≡ Child → r .end ≡ No → Passing d at st₀ i st → nothingGot (length s) ≡ gotHeld s p c st₀ (contentAt s d at)
         unfolding gotOne gotHeld
         passing-none e q w = go (elemAt s d i) refl (ap (λ (x : Got). x .end) (sym told ∙ settled-no (length s) r q))
           where
-            go : (o : One) → elemAt s d i ≡ o → gotOne s p c st o .end ≡ No → refused (length s) ≡ gotHeld s p c st₀ (contentAt s d at)
+            go : (o : One) → elemAt s d i ≡ o → gotOne s p c st o .end ≡ No → nothingGot (length s) ≡ gotHeld s p c st₀ (contentAt s d at)
             go (one x kids k) u y = absurd (differ (sym y))
             go none u y = reading-none (gotHeld s p c) skips adds got-text got-elem s d at st₀ i st e u w
 
@@ -106,19 +106,19 @@ module _ (s p : List ℕ) (c : Context) (st : State) (d i : ℕ) where
   abbrev pub inner : ℕ → Context
   inner a = contextOf s p (i + 1) a c (st .alert .kept)
 
-  none-got : elemAt s d i ≡ none → refused (length s) ≡ gotOne s p c st (elemAt s d i)
+  none-got : elemAt s d i ≡ none → nothingGot (length s) ≡ gotOne s p c st (elemAt s d i)
   unfolding gotOne
   none-got e = rw e
 
-  pub one-deep : d ≡ 0 → refused (length s) ≡ gotOne s p c st (elemAt s d i)
+  pub one-deep : d ≡ 0 → nothingGot (length s) ≡ gotOne s p c st (elemAt s d i)
   one-deep e = none-got (elem-deep s d i e)
 
   module _ (b : ℕ) (up : d ≡ suc b) where
-    pub one-shut : openAt s i ≡ Shut → refused (length s) ≡ gotOne s p c st (elemAt s d i)
+    pub one-shut : openAt s i ≡ Shut → nothingGot (length s) ≡ gotOne s p c st (elemAt s d i)
     one-shut e = none-got (elem-shut s d b i up e)
 
-    same-place : (j : ℕ) → placeOf s j j ≡ length s
-    unfolding placeOf
+    same-place : (j : ℕ) → leafPlace s j j ≡ length s
+    unfolding leafPlace
     same-place j = rw (eq-eqb j j refl)
 
     pub one-empty : (a j : ℕ) → openAt s i ≡ Empty a j
@@ -127,24 +127,24 @@ module _ (s p : List ℕ) (c : Context) (st : State) (d i : ℕ) where
     one-empty a j e = rw (elem-empty s d b i up a j e, same-place j)
 
     module _ (a j : ℕ) (e : openAt s i ≡ Full a j) (r : Got) (told : settled (length s) r ≡ gotHeld s p (inner a) (touchIn Holds c st) (contentAt s b j)) where
-      pub one-bad : r .end ≡ No → refused (length s) ≡ gotOne s p c st (elemAt s d i)
+      pub one-bad : r .end ≡ No → nothingGot (length s) ≡ gotOne s p c st (elemAt s d i)
       unfolding gotHeld
       one-bad q = go (contentAt s b j) refl (ap (λ (x : Got). x .end) (sym told ∙ settled-no (length s) r q))
         where
-          go : (h : Held) → contentAt s b j ≡ h → gotHeld s p (inner a) (touchIn Holds c st) h .end ≡ No → refused (length s) ≡ gotOne s p c st (elemAt s d i)
+          go : (h : Held) → contentAt s b j ≡ h → gotHeld s p (inner a) (touchIn Holds c st) h .end ≡ No → nothingGot (length s) ≡ gotOne s p c st (elemAt s d i)
           go (held t k) u y = absurd (differ (sym y))
           go bad u y = none-got (elem-bad s d b i up a j e u)
 
-      pub one-close : (k : ℕ) → r .end ≡ At k → finished (length s) (closeAt s i a k) (left s (inner a) (placeOf s j k) (r .state)) ≡ gotOne s p c st (elemAt s d i)
+      pub one-close : (k : ℕ) → r .end ≡ At k → finished (length s) (closeAt s i a k) (left s (inner a) (leafPlace s j k) (r .state)) ≡ gotOne s p c st (elemAt s d i)
       unfolding gotHeld finished gotOne visit
       one-close k q = let got = sym (settled-at (length s) r k q) ∙ told in rw got (go (contentAt s b j) refl (ap (λ (x : Got). x .end) (sym got) ∙ q))
         where
           tip : (t : Forest) → contentAt s b j ≡ held t k → (x : End) → closeAt s i a k ≡ x
-              → finished (length s) x (left s (inner a) (placeOf s j k) (visit s p (inner a) (touchIn Holds c st) t)) ≡ gotOne s p c st (elemAt s d i)
+              → finished (length s) x (left s (inner a) (leafPlace s j k) (visit s p (inner a) (touchIn Holds c st) t)) ≡ gotOne s p c st (elemAt s d i)
           tip t u (At y) z = rw (elem-full s d b i up a j e t k y u z)
           tip t u No z = none-got (elem-open s d b i up a j e t k u z)
 
           go : (h : Held) → contentAt s b j ≡ h → gotHeld s p (inner a) (touchIn Holds c st) h .end ≡ At k
-              → finished (length s) (closeAt s i a k) (left s (inner a) (placeOf s j k) (gotHeld s p (inner a) (touchIn Holds c st) h .state)) ≡ gotOne s p c st (elemAt s d i)
+              → finished (length s) (closeAt s i a k) (left s (inner a) (leafPlace s j k) (gotHeld s p (inner a) (touchIn Holds c st) h .state)) ≡ gotOne s p c st (elemAt s d i)
           go (held t x) u y = tip t (u ∙ ap (held t) (at-is y)) (closeAt s i a k) refl
           go bad u y = absurd (differ y)

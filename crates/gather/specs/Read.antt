@@ -1,4 +1,4 @@
--- What document 01 reads in an alert, over the tree: children by name, in message order. s is the message and p the root's prefix.
+-- The elements of a tree by name, in message order. s is the message and p the root's prefix.
 use Prim.Native.Nat.{ℕ, _+_}
 use Prim.Native.String.{String}
 use mathlib.Core.Bool.{Bool, true, false}

@@ -6,7 +6,7 @@ use mathlib.Core.List.{List, [], _∷_, foldl}
 use lib.ListN.{length}
 use Rattle.octets.specs.Bytes.{pick, every}
 use Rattle.markup.specs.Tree.{Tag, Forest}
-use Rattle.reads.specs.WorkingLeaves.{blank, marked, found, soundOf, noInfo}
+use Rattle.reads.specs.WorkingLeaves.{noLeaf, marked, found, soundOf, noInfo}
 use Rattle.reads.specs.WorkingSteps.{eventStep, parameterStep, locationStep, audioStep, english}
 use Rattle.reads.specs.declared.Leaf.{Leaf}
 use Rattle.reads.specs.declared.Events.{Events}
@@ -17,55 +17,55 @@ use Rattle.reads.specs.declared.Info.{Info}
 use Rattle.reads.specs.declared.Alert.{Alert}
 use Rattle.reads.specs.declared.Kept.{Kept}
 use Rattle.reads.specs.declared.Kept.the-variants.{Nothing, First, Selected}
-use Rattle.gather.specs.WorkingVisit.{placeOf}
+use Rattle.gather.specs.WorkingVisit.{leafPlace}
 use Rattle.gather.specs.Read.{Element, named, bare}
 
 -- ---- leaves
 
 -- where the value of an element begins
 abbrev pub placeIn : List ℕ → Tag → ℕ
-placeIn s g = placeOf s (g .body) (g .shut)
+placeIn s g = leafPlace s (g .body) (g .shut)
 
 abbrev pub markedIf : Bool → Leaf → Leaf
 markedIf b l = pick b (marked l) l
 
 -- a leaf with one more element of it
-abbrev pub added : List ℕ → Leaf → Element → Leaf
-added s l e = found (markedIf (not (bare (e .holds))) l) (placeIn s (e .tag))
+abbrev pub withLeaf : List ℕ → Leaf → Element → Leaf
+withLeaf s l e = found (markedIf (not (bare (e .holds))) l) (placeIn s (e .tag))
 
-abbrev pub addedAll : List ℕ → Leaf → List Element → Leaf
-addedAll s l es = foldl (added s) l es
+abbrev pub withLeaves : List ℕ → Leaf → List Element → Leaf
+withLeaves s l es = foldl (withLeaf s) l es
 
 -- the leaf of this name
 abbrev pub leafIn : List ℕ → List ℕ → String → Forest → Leaf
-leafIn s p w t = addedAll s (blank (length s)) (named s p w t)
+leafIn s p w t = withLeaves s (noLeaf (length s)) (named s p w t)
 
 -- ---- what an info holds: eventCode, parameter, geocode (valueName, value), resource (mimeType, uri)
 
-abbrev pub event : List ℕ → List ℕ → Events → Element → Events
-event s p x e = eventStep s x (leafIn s p "valueName" (e .holds)) (leafIn s p "value" (e .holds))
+abbrev pub withEvent : List ℕ → List ℕ → Events → Element → Events
+withEvent s p x e = eventStep s x (leafIn s p "valueName" (e .holds)) (leafIn s p "value" (e .holds))
 
-abbrev pub parameter : List ℕ → List ℕ → Parameters → Element → Parameters
-parameter s p x e = parameterStep s x (leafIn s p "valueName" (e .holds)) (leafIn s p "value" (e .holds))
+abbrev pub withParameter : List ℕ → List ℕ → Parameters → Element → Parameters
+withParameter s p x e = parameterStep s x (leafIn s p "valueName" (e .holds)) (leafIn s p "value" (e .holds))
 
-abbrev pub location : List ℕ → List ℕ → Locations → Element → Locations
-location s p x e = locationStep s x (leafIn s p "valueName" (e .holds)) (leafIn s p "value" (e .holds))
+abbrev pub withGeocode : List ℕ → List ℕ → Locations → Element → Locations
+withGeocode s p x e = locationStep s x (leafIn s p "valueName" (e .holds)) (leafIn s p "value" (e .holds))
 
-abbrev pub resource : List ℕ → List ℕ → Audio → Element → Audio
-resource s p x e = audioStep s x (leafIn s p "mimeType" (e .holds)) (leafIn s p "uri" (e .holds))
+abbrev pub withResource : List ℕ → List ℕ → Audio → Element → Audio
+withResource s p x e = audioStep s x (leafIn s p "mimeType" (e .holds)) (leafIn s p "uri" (e .holds))
 
 -- an area's geocodes
-abbrev pub area : List ℕ → List ℕ → Locations → Element → Locations
-area s p x e = foldl (location s p) x (named s p "geocode" (e .holds))
+abbrev pub withArea : List ℕ → List ℕ → Locations → Element → Locations
+withArea s p x e = foldl (withGeocode s p) x (named s p "geocode" (e .holds))
 
 -- what is read in an info whose content is t
 unfoldable pub infoOf : List ℕ → List ℕ → Forest → Info
 infoOf s p t = record {
   leaf = leafIn s p "language" t ∷ leafIn s p "expires" t ∷ leafIn s p "senderName" t ∷ leafIn s p "description" t ∷ leafIn s p "instruction" t ∷ [];
-  events = foldl (event s p) (noInfo (length s) .events) (named s p "eventCode" t);
-  parameters = foldl (parameter s p) (noInfo (length s) .parameters) (named s p "parameter" t);
-  locations = foldl (area s p) (noInfo (length s) .locations) (named s p "area" t);
-  audio = foldl (resource s p) (noInfo (length s) .audio) (named s p "resource" t);
+  events = foldl (withEvent s p) (noInfo (length s) .events) (named s p "eventCode" t);
+  parameters = foldl (withParameter s p) (noInfo (length s) .parameters) (named s p "parameter" t);
+  locations = foldl (withArea s p) (noInfo (length s) .locations) (named s p "area" t);
+  audio = foldl (withResource s p) (noInfo (length s) .audio) (named s p "resource" t);
 }
 
 -- ---- the info that is selected

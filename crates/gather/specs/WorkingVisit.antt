@@ -7,7 +7,7 @@ use Rattle.octets.specs.Bytes.{pick}
 use Rattle.pieces.specs.declared.End.{End}
 use Rattle.pieces.specs.declared.End.the-variants.{At, No}
 use Rattle.markup.specs.Tree.{Tag, Forest, nil, text, elem, One, one, none, Held, held, bad}
-use Rattle.reads.specs.WorkingLeaves.{blank, marked, found, noInfo, fresh}
+use Rattle.reads.specs.WorkingLeaves.{noLeaf, marked, found, noInfo, nothingRead}
 use Rattle.reads.specs.Names.{contextOf}
 use Rattle.reads.specs.WorkingSteps.{eventStep, parameterStep, locationStep, audioStep, infoStep, laterStep}
 use Rattle.reads.specs.declared.Leaf.{Leaf}
@@ -28,7 +28,7 @@ touched (Stands at) l = found l at
 
 -- the leaf at k, of n
 abbrev pub touchedAt : ℕ → Touch → ℕ → List Leaf → List Leaf
-touchedAt n t k ls = pick (ltb k n) (set ls k (touched t (getD ls k (blank 0)))) ls
+touchedAt n t k ls = pick (ltb k n) (set ls k (touched t (getD ls k (noLeaf 0)))) ls
 
 abbrev pub touchAlert : Touch → ℕ → Alert → Alert
 touchAlert t k a = record { leaf = touchedAt 7 t k (a .leaf); kept = a .kept; info = a .info; fault = a .fault }
@@ -76,8 +76,8 @@ pairAdded s ctx.Skipped i x y = i
 abbrev pub pairLeft : List ℕ → Context → State → State
 pairLeft s k st = record {
   alert = st .alert;
-  info = pairAdded s k (st .info) (getD (st .pair) 0 (blank 0)) (getD (st .pair) 1 (blank 0));
-  pair = blank (length s) ∷ blank (length s) ∷ [];
+  info = pairAdded s k (st .info) (getD (st .pair) 0 (noLeaf 0)) (getD (st .pair) 1 (noLeaf 0));
+  pair = noLeaf (length s) ∷ noLeaf (length s) ∷ [];
 }
 
 abbrev pub infoLeft : List ℕ → State → State
@@ -105,12 +105,12 @@ left s ctx.Skipped at st = st
 -- ---- the pass
 
 -- where the value of a leaf begins that holds what stands from b to e; what holds nothing has the value of the message's end
-unfoldable pub placeOf : List ℕ → ℕ → ℕ → ℕ
-placeOf s b e = pick (eqb b e) (length s) b
+unfoldable pub leafPlace : List ℕ → ℕ → ℕ → ℕ
+leafPlace s b e = pick (eqb b e) (length s) b
 
 -- the context inside an element, from the one that it stands in
-abbrev pub within : List ℕ → List ℕ → Context → State → Tag → Context
-within s p c st g = contextOf s p (g .from + 1) (g .name) c (st .alert .kept)
+abbrev pub contextIn : List ℕ → List ℕ → Context → State → Tag → Context
+contextIn s p c st g = contextOf s p (g .from + 1) (g .name) c (st .alert .kept)
 
 -- what is held in the context c, under the root's prefix p, adds to what is gathered: each element, when it begins, marks a leaf that it stands in; then comes
 -- what it holds; then its end
@@ -119,28 +119,28 @@ visit s p c st nil = st
 visit s p c st (text i j rest) = visit s p c st rest
 visit s p c st (elem g kids rest) =
     visit s p c
-    (left s (within s p c st g) (placeOf s (g .body) (g .shut)) (visit s p (within s p c st g) (touchIn Holds c st) kids))
+    (left s (contextIn s p c st g) (leafPlace s (g .body) (g .shut)) (visit s p (contextIn s p c st g) (touchIn Holds c st) kids))
     rest
 
-abbrev pub refused : ℕ → Got
-refused n = record { end = No; state = fresh n }
+abbrev pub nothingGot : ℕ → Got
+nothingGot n = record { end = No; state = nothingRead n }
 
 -- an answer as it counts: what does not end has gathered nothing, whatever state is handed back
 abbrev pub settledAs : ℕ → End → Got → Got
 settledAs n (At e) r = r
-settledAs n No r = refused n
+settledAs n No r = nothingGot n
 
 abbrev pub settled : ℕ → Got → Got
 settled n r = settledAs n (r .end) r
 
 unfoldable pub finished : ℕ → End → State → Got
 finished n (At e) st = record { end = At e; state = st }
-finished n No st = refused n
+finished n No st = nothingGot n
 
 unfoldable pub gotOne : List ℕ → List ℕ → Context → State → One → Got
 gotOne s p c st (one g kids e) = record { end = At e; state = visit s p c st (elem g kids nil) }
-gotOne s p c st none = refused (length s)
+gotOne s p c st none = nothingGot (length s)
 
 unfoldable pub gotHeld : List ℕ → List ℕ → Context → State → Held → Got
 gotHeld s p c st (held t j) = record { end = At j; state = visit s p c st t }
-gotHeld s p c st bad = refused (length s)
+gotHeld s p c st bad = nothingGot (length s)

@@ -12,7 +12,7 @@ ghost use Prim.Native.Nat.{_+_, _≤_, _<_};
 ghost use lib.ListN.{length};
 ghost use Rattle.tags.specs.Tags.{closeAt};
 ghost use Rattle.markup.specs.Tree.{elemAt, contentAt};
-ghost use Rattle.gather.specs.WorkingVisit.{touched, touchAlert, touchInfo, touchPair, touchIn, pairAdded, pairLeft, infoLeft, laterLeft, left, placeOf, refused, settled, finished, gotOne, gotHeld};
+ghost use Rattle.gather.specs.WorkingVisit.{touched, touchAlert, touchInfo, touchPair, touchIn, pairAdded, pairLeft, infoLeft, laterLeft, left, leafPlace, nothingGot, settled, finished, gotOne, gotHeld};
 
 // What is learnt of a leaf: that it holds an element, or that one more stands, whose value begins at a place.
 pub enum Touch {
@@ -27,7 +27,7 @@ pub struct Got {
 }
 
 fn refuse(n: usize) -> Got
-    ensures { λ r. ⌜ r ≡ refused n ⌝ }
+    ensures { λ r. ⌜ r ≡ nothingGot n ⌝ }
 {
     Got {
         end: End::No,
@@ -224,7 +224,7 @@ fn leave(s: &[u8], k: Context, at: usize, st: State) -> State
 // The end of an element that held what stands from b to e.
 fn finish(s: &[u8], at: usize, a: usize, b: usize, e: usize, k: Context, st: State) -> Got
     requires { ⌜ (at + 1 < a) × (a ≤ length (now s)) ⌝ }
-    ensures { λ r. ⌜ settled (length (now (s .entry))) r ≡ finished (length (now (s .entry))) (closeAt (now (s .entry)) at a e) (left (now (s .entry)) k (placeOf (now (s .entry)) b e) st) ⌝ }
+    ensures { λ r. ⌜ settled (length (now (s .entry))) r ≡ finished (length (now (s .entry))) (closeAt (now (s .entry)) at a e) (left (now (s .entry)) k (leafPlace (now (s .entry)) b e) st) ⌝ }
 {
     let z = tags::close_tag(s, at, a, e);
     match z {
@@ -244,7 +244,7 @@ fn finish(s: &[u8], at: usize, a: usize, b: usize, e: usize, k: Context, st: Sta
 
 // Where the value of a leaf begins that holds what stands from b to e: nothing has the value of the message's end.
 fn place(s: &[u8], b: usize, e: usize) -> usize
-    ensures { λ r. ⌜ r ≡ placeOf (now (s .entry)) b e ⌝ }
+    ensures { λ r. ⌜ r ≡ leafPlace (now (s .entry)) b e ⌝ }
 {
     if b == e {
         return s.len();

@@ -14,8 +14,8 @@ use Rattle.header.proofs.Locations.{locations-forth, length-read, locat
 use Rattle.header.proofs.Reading.{length-is, some-in, few-in, body-zero, body-long}
 use Rattle.header.proofs.Times.{of-period, of-time, times-forth}
 use Rattle.header.proofs.Writing.{write-done, number-none}
-use Rattle.header.specs.Body.{locationsBytes, timesBytes, bodyBytes, headTests, headForm, locationsOf, periodOf, dayOf, hourOf, minuteOf, countOf, timesPart, bodyFormTests, bodyForm, bodyOf, readBodyOf}
-use Rattle.header.specs.Header.{headerBytes, stationAt, headerTests, headerForm, partsOf, refusal, readOf, writeOf, writeBytes}
+use Rattle.header.specs.Body.{locationsBytes, timesBytes, bodyBytes, headTests, headForm, locationsOf, periodIn, dayIn, hourIn, minuteIn, locationCount, timesPart, bodyFormTests, bodyForm, bodyOf, readBodyOf}
+use Rattle.header.specs.Header.{headerBytes, stationAt, headerTests, headerForm, partsIn, refusal, readOf, writeOf, writeBytes}
 use Rattle.header.specs.declared.Read.{Read}
 use Rattle.octets.proofs.Numbers.{range-low, range-high}
 use Rattle.octets.proofs.Parts.{length-part, cut, tail-step}
@@ -58,20 +58,20 @@ module _ (s : List ℕ) (ok : bodyForm s ≡ true) where
   unfolding headForm
   hd = each-of (headTests s) (w .1 .0)
 
-  long : length s ≡ 26 + 7 * countOf s
+  long : length s ≡ 26 + 7 * locationCount s
   long = length-is (length s) (w .0)
 
-  few : countOf s ≤ 31
+  few : locationCount s ≤ 31
   few = few-in (length s) (w .0)
 
   times-long : length (timesPart s) ≡ 14
-  times-long = length-part s (12 + 7 * countOf s) 14 (omega (arith, long))
+  times-long = length-part s (12 + 7 * locationCount s) 14 (omega (arith, long))
 
-  times-rest : timesPart s ≡ drop (12 + 7 * countOf s) s
-  times-rest = take-all 14 (drop (12 + 7 * countOf s) s) (omega (arith, length-drop (12 + 7 * countOf s) s, long))
+  times-rest : timesPart s ≡ drop (12 + 7 * locationCount s) s
+  times-rest = take-all 14 (drop (12 + 7 * locationCount s) s) (omega (arith, length-drop (12 + 7 * locationCount s) s, long))
 
-  first : take (countOf s) (padded (locationsOf (countOf s) s 12)) ≡ locationsOf (countOf s) s 12
-  first = padded-first (locationsOf (countOf s) s 12) (countOf s) (length-read (countOf s) s 12) few
+  first : take (locationCount s) (padded (locationsOf (locationCount s) s 12)) ≡ locationsOf (locationCount s) s 12
+  first = padded-first (locationsOf (locationCount s) s 12) (locationCount s) (length-read (locationCount s) s 12) few
 
   zczc : bytes "ZCZC-" ++ drop 5 s ≡ s
   unfolding bytes
@@ -81,9 +81,9 @@ module _ (s : List ℕ) (ok : bodyForm s ≡ true) where
   pub body-forth : bodyBytes (bodyOf s) ≡ s
   unfolding bodyBytes bodyOf
   body-forth =
-      let gₜ : timesBytes (periodOf (timesPart s)) (dayOf (timesPart s)) (hourOf (timesPart s)) (minuteOf (timesPart s)) ≡ drop (12 + 7 * countOf s) s = times-forth (timesPart s) times-long (w .1 .1 .1 .0) (w .1 .1 .1 .1 .0) ∙ times-rest in
-      let g₁₂ : locationsBytes (take (countOf s) (padded (locationsOf (countOf s) s 12))) ++ drop (12 + 7 * countOf s) s ≡ drop 12 s =
-      ap (λ (x : List ℕ). locationsBytes x ++ drop (12 + 7 * countOf s) s) first ∙ locations-forth (countOf s) s 12 (omega (arith, long)) (w .1 .1 .0) in
+      let gₜ : timesBytes (periodIn (timesPart s)) (dayIn (timesPart s)) (hourIn (timesPart s)) (minuteIn (timesPart s)) ≡ drop (12 + 7 * locationCount s) s = times-forth (timesPart s) times-long (w .1 .1 .1 .0) (w .1 .1 .1 .1 .0) ∙ times-rest in
+      let g₁₂ : locationsBytes (take (locationCount s) (padded (locationsOf (locationCount s) s 12))) ++ drop (12 + 7 * locationCount s) s ≡ drop 12 s =
+      ap (λ (x : List ℕ). locationsBytes x ++ drop (12 + 7 * locationCount s) s) first ∙ locations-forth (locationCount s) s 12 (omega (arith, long)) (w .1 .1 .0) in
       let g₉ : part s 9 3 ++ drop 12 s ≡ drop 9 s = sym (cut s 9 3) in
       let g₈ : 45 ∷ drop 9 s ≡ drop 8 s = ap (λ (x : ℕ). x ∷ drop 9 s) (sym (eqb-true (getD s 8 0) 45 (hd .1 .1 .0))) ∙ sym (tail-step s 8 (omega (arith, long))) in
       let g₅ : originatorBytes (known (originatorOf (part s 5 3))) ++ drop 8 s ≡ drop 5 s = ap (λ (x : List ℕ). x ++ drop 8 s) (originator-forth (part s 5 3) (hd .1 .0)) ∙ sym (cut s 5 3) in
@@ -93,7 +93,7 @@ module _ (s : List ℕ) (ok : bodyForm s ≡ true) where
   pub body-ok : bodyOk (bodyOf s) ≡ true
   unfolding bodyOf
   body-ok =
-      let n = countOf s in
+      let n = locationCount s in
       let t = timesPart s in
       let ls = locationsOf n s 12 in
       let p = of-period t times-long (w .1 .1 .1 .0) (w .1 .1 .1 .1 .0) in
@@ -133,8 +133,8 @@ module _ (s : List ℕ) (ok : headerForm s ≡ true) where
       let l = length-take (stationAt s) s in
       (omega arith, omega arith)
 
-  pub header-forth : headerBytes (partsOf s) ≡ s
-  unfolding headerBytes partsOf
+  pub header-forth : headerBytes (partsIn s) ≡ s
+  unfolding headerBytes partsIn
   header-forth =
       let at = stationAt s in
       let n = header-long .0 in
@@ -144,15 +144,15 @@ module _ (s : List ℕ) (ok : headerForm s ≡ true) where
       ∙ ap (λ (y : List ℕ). take at s ++ y) (sym (cut s at 8))
       ∙ take-append-drop at s
 
-  pub parts-ok : (bodyOk (partsOf s .body) ≡ true) × (stationOk (partsOf s .station) ≡ true)
-  unfolding partsOf
+  pub parts-ok : (bodyOk (partsIn s .body) ≡ true) × (stationOk (partsIn s .station) ≡ true)
+  unfolding partsIn
   parts-ok = (body-ok (take (stationAt s) s) (v .0), v .1 .0)
 
-pub header-zero : (s : List ℕ) → readOf s .number ≡ 0 → (headerForm s ≡ true) × (readOf s .parts ≡ partsOf s)
+pub header-zero : (s : List ℕ) → readOf s .number ≡ 0 → (headerForm s ≡ true) × (readOf s .parts ≡ partsIn s)
 unfolding readOf
 header-zero s = go (headerForm s)
   where
-    go : (b : Bool) → (pick {A = Read} b (record { number = 0; parts = partsOf s }) refusal) .number ≡ 0 → (b ≡ true) × ((pick {A = Read} b (record { number = 0; parts = partsOf s }) refusal) .parts ≡ partsOf s)
+    go : (b : Bool) → (pick {A = Read} b (record { number = 0; parts = partsIn s }) refusal) .number ≡ 0 → (b ≡ true) × ((pick {A = Read} b (record { number = 0; parts = partsIn s }) refusal) .parts ≡ partsIn s)
     go true e = (refl, refl)
     go false e = absurd (omega arith)
 
@@ -161,8 +161,8 @@ pub read-small : (s : List ℕ) → Small (readOf s .parts .body)
 unfolding readOf
 read-small s = go (headerForm s) refl
   where
-    go : (b : Bool) → headerForm s ≡ b → Small ((pick {A = Read} b (record { number = 0; parts = partsOf s }) refusal) .parts .body)
-    go true e = small (partsOf s .body) (parts-ok s e .0)
+    go : (b : Bool) → headerForm s ≡ b → Small ((pick {A = Read} b (record { number = 0; parts = partsIn s }) refusal) .parts .body)
+    go true e = small (partsIn s .body) (parts-ok s e .0)
     go false e = none-small
 
 -- ---- demand 2, second half
@@ -172,7 +172,7 @@ pub write-read-header : (s d : List ℕ) → readOf s .number ≡ 0 → 252 ≤ 
     (writeOf d (readOf s .parts) ≡ record { number = 0; len = length s }) × (writeBytes d (readOf s .parts) ≡ s ++ drop (length s) d)
 write-read-header s d e h =
     let z = header-zero s e in
-    let p = partsOf s in
+    let p = partsIn s in
     let k = parts-ok s (z .0) in
     let f = header-forth s (z .0) in
     let n = header-long s (z .0) .1 in

@@ -7,8 +7,8 @@ use native.Mathlib.Omega.{arith}
 use lib.ListN.{length, take, getD}
 use borrow.Author.Tests.{eqb-true, eq-eqb}
 use Rattle.header.proofs.Locations.{locations-taken, form-is}
-use Rattle.header.specs.Body.{headTests, headForm, headRead, locationsRead, periodOf, periodTests, periodForm, periodRead, dayOf, hourOf, minuteOf, timeTests, timeForm, timeRead, countIn, lengthTests, lengthForm, countOf, timesPart, bodyFormTests, bodyForm, bodyOf, bodyRefusal, readBodyOf}
-use Rattle.header.specs.Header.{stationAt, headerTests, headerForm, partsOf, refusal, readOf}
+use Rattle.header.specs.Body.{headTests, headForm, headRead, locationsRead, periodIn, periodTests, periodForm, periodRead, dayIn, hourIn, minuteIn, timeFormTests, timeForm, timeRead, countIn, lengthTests, lengthForm, locationCount, timesPart, bodyFormTests, bodyForm, bodyOf, bodyRefusal, readBodyOf}
+use Rattle.header.specs.Header.{stationAt, headerTests, headerForm, partsIn, refusal, readOf}
 use Rattle.header.specs.declared.BodyRead.{BodyRead}
 use Rattle.header.specs.declared.Read.{Read}
 use Rattle.header.specs.declared.Time.the-variants.{At, No}
@@ -71,33 +71,33 @@ pub period-refused : (i : ℕ) (t : List ℕ) → getD (periodTests t) i true �
 unfolding periodRead periodForm
 period-refused i t h = rw (one-fails i (periodTests t) h)
 
-pub period-taken : (t : List ℕ) (v : ℕ) → Each (periodTests t) → periodOf t ≡ v → periodRead t ≡ Value v
+pub period-taken : (t : List ℕ) (v : ℕ) → Each (periodTests t) → periodIn t ≡ v → periodRead t ≡ Value v
 unfolding periodRead periodForm
-period-taken t v h e = picked (every holds (periodTests t)) (Value (periodOf t)) Bad (every-of (periodTests t) h) ∙ ap Value e
+period-taken t v h e = picked (every holds (periodTests t)) (Value (periodIn t)) Bad (every-of (periodTests t) h) ∙ ap Value e
 
-pub period-value : (t : List ℕ) (v : ℕ) → periodRead t ≡ Value v → (periodForm t ≡ true) × (periodOf t ≡ v)
+pub period-value : (t : List ℕ) (v : ℕ) → periodRead t ≡ Value v → (periodForm t ≡ true) × (periodIn t ≡ v)
 unfolding periodRead
-period-value t v h = picked-value (periodForm t) (periodOf t) v h
+period-value t v h = picked-value (periodForm t) (periodIn t) v h
 
 pub period-bad : (t : List ℕ) → periodRead t ≡ Bad → periodForm t ≡ false
 unfolding periodRead
-period-bad t h = picked-bad (periodForm t) (periodOf t) h
+period-bad t h = picked-bad (periodForm t) (periodIn t) h
 
-pub time-refused : (i : ℕ) (t : List ℕ) → getD (timeTests t) i true ≡ false → timeRead t ≡ No
+pub time-refused : (i : ℕ) (t : List ℕ) → getD (timeFormTests t) i true ≡ false → timeRead t ≡ No
 unfolding timeRead timeForm
-time-refused i t h = rw (one-fails i (timeTests t) h)
+time-refused i t h = rw (one-fails i (timeFormTests t) h)
 
-pub time-taken : (t : List ℕ) (d h m : ℕ) → Each (timeTests t) → dayOf t ≡ d → hourOf t ≡ h → minuteOf t ≡ m → timeRead t ≡ At d h m
+pub time-taken : (t : List ℕ) (d h m : ℕ) → Each (timeFormTests t) → dayIn t ≡ d → hourIn t ≡ h → minuteIn t ≡ m → timeRead t ≡ At d h m
 unfolding timeRead timeForm
-time-taken t d h m e p q r = picked (every holds (timeTests t)) (At (dayOf t) (hourOf t) (minuteOf t)) No (every-of (timeTests t) e) ∙ (λ i. At (p i) (q i) (r i))
+time-taken t d h m e p q r = picked (every holds (timeFormTests t)) (At (dayIn t) (hourIn t) (minuteIn t)) No (every-of (timeFormTests t) e) ∙ (λ i. At (p i) (q i) (r i))
 
 picked-time : (b : Bool) (x y z d h m : ℕ) → pick b (At x y z) No ≡ At d h m → (b ≡ true) × (x ≡ d) × (y ≡ h) × (z ≡ m)
 picked-time true x y z d h m e = (refl, cc, cc, cc)
 picked-time false x y z d h m e = let no : _≡_ {A = ℕ} 0 1 = cc in absurd (omega arith)
 
-pub time-at : (t : List ℕ) (d h m : ℕ) → timeRead t ≡ At d h m → (timeForm t ≡ true) × (dayOf t ≡ d) × (hourOf t ≡ h) × (minuteOf t ≡ m)
+pub time-at : (t : List ℕ) (d h m : ℕ) → timeRead t ≡ At d h m → (timeForm t ≡ true) × (dayIn t ≡ d) × (hourIn t ≡ h) × (minuteIn t ≡ m)
 unfolding timeRead
-time-at t d h m e = picked-time (timeForm t) (dayOf t) (hourOf t) (minuteOf t) d h m e
+time-at t d h m e = picked-time (timeForm t) (dayIn t) (hourIn t) (minuteIn t) d h m e
 
 picked-no : (b : Bool) (x y z : ℕ) → pick b (At x y z) No ≡ No → b ≡ false
 picked-no true x y z e = let no : _≡_ {A = ℕ} 0 1 = cc in absurd (omega arith)
@@ -105,7 +105,7 @@ picked-no false x y z e = refl
 
 pub time-no : (t : List ℕ) → timeRead t ≡ No → timeForm t ≡ false
 unfolding timeRead
-time-no t e = picked-no (timeForm t) (dayOf t) (hourOf t) (minuteOf t) e
+time-no t e = picked-no (timeForm t) (dayIn t) (hourIn t) (minuteIn t) e
 
 -- ---- the body
 
@@ -119,19 +119,19 @@ body-accepted s h = rw h
 
 -- what was read piece by piece is what the whole says
 pub body-taken : (s : List ℕ) (o : Originator) (event : List ℕ) (found : Locations) (period day hour minute : ℕ) →
-    lengthForm (length s) ≡ true → headRead s ≡ Known o → event ≡ part s 9 3 → found ≡ locationsRead (countOf s) s 12 → found .ok ≡ true →
+    lengthForm (length s) ≡ true → headRead s ≡ Known o → event ≡ part s 9 3 → found ≡ locationsRead (locationCount s) s 12 → found .ok ≡ true →
     periodRead (timesPart s) ≡ Value period → timeRead (timesPart s) ≡ At day hour minute →
-    _≡_ {A = BodyRead} (record { number = 0; body = record { originator = o; event = event; count = countOf s; locations = found .list; period = period; day = day; hour = hour; minute = minute } }) (readBodyOf s)
+    _≡_ {A = BodyRead} (record { number = 0; body = record { originator = o; event = event; count = locationCount s; locations = found .list; period = period; day = day; hour = hour; minute = minute } }) (readBodyOf s)
 unfolding bodyOf bodyForm
 body-taken s o event found period day hour minute n head e f ok p t =
     let h = head-known s o head in
     let v = period-value (timesPart s) period p in
     let w = time-at (timesPart s) day hour minute t in
-    let form = sym (form-is (countOf s) s 12) ∙ sym (ap (λ (l : Locations). l .ok) f) ∙ ok in
-    let list = ap (λ (l : Locations). l .list) (f ∙ locations-taken (countOf s) s 12 form) in
+    let form = sym (form-is (locationCount s) s 12) ∙ sym (ap (λ (l : Locations). l .ok) f) ∙ ok in
+    let list = ap (λ (l : Locations). l .list) (f ∙ locations-taken (locationCount s) s 12 form) in
     let all = every-of (bodyFormTests s) (n, (h .0, (form, (v .0, (w .0, tt))))) in
-    let b : _≡_ {A = Body} (record { originator = o; event = event; count = countOf s; locations = found .list; period = period; day = day; hour = hour; minute = minute }) (bodyOf s)
-    = λ i. record { originator = sym (ap known (h .1)) i; event = e i; count = countOf s; locations = list i; period = sym (v .1) i; day = sym (w .1) i; hour = sym (w .2) i; minute = sym (w .3) i } in
+    let b : _≡_ {A = Body} (record { originator = o; event = event; count = locationCount s; locations = found .list; period = period; day = day; hour = hour; minute = minute }) (bodyOf s)
+    = λ i. record { originator = sym (ap known (h .1)) i; event = e i; count = locationCount s; locations = list i; period = sym (v .1) i; day = sym (w .1) i; hour = sym (w .2) i; minute = sym (w .3) i } in
     ap (λ (x : Body). record { number = 0; body = x }) b ∙ sym (body-accepted s all)
 
 -- number 0 says that the bytes are a body, and what it is
@@ -157,19 +157,19 @@ pub header-refused : (i : ℕ) (s : List ℕ) → getD (headerTests s) i true �
 unfolding readOf headerForm
 header-refused i s h = rw (one-fails i (headerTests s) h)
 
-pub header-accepted : (s : List ℕ) → headerForm s ≡ true → readOf s ≡ record { number = 0; parts = partsOf s }
+pub header-accepted : (s : List ℕ) → headerForm s ≡ true → readOf s ≡ record { number = 0; parts = partsIn s }
 unfolding readOf
 header-accepted s h = rw h
 
 pub header-taken : (s : List ℕ) (front : BodyRead) (station : List ℕ) → front ≡ readBodyOf (take (stationAt s) s) → front .number ≡ 0 →
     stationOk (part s (stationAt s) 8) ≡ true → byteAt s (stationAt s + 8) ≡ 45 → station ≡ part s (stationAt s) 8 →
     _≡_ {A = Read} (record { number = 0; parts = record { body = front .body; station = station } }) (readOf s)
-unfolding partsOf headerForm
+unfolding partsIn headerForm
 header-taken s front station f z k l e =
     let b = body-zero (take (stationAt s) s) (sym (ap (λ (r : BodyRead). r .number) f) ∙ z) in
     let all = every-of (headerTests s) (b .0, (k, (eq-eqb (byteAt s (stationAt s + 8)) 45 l, tt))) in
     let body = ap (λ (r : BodyRead). r .body) f ∙ b .1 in
-    let p : _≡_ {A = Parts} (record { body = front .body; station = station }) (partsOf s) = λ i. record { body = body i; station = e i } in
+    let p : _≡_ {A = Parts} (record { body = front .body; station = station }) (partsIn s) = λ i. record { body = body i; station = e i } in
     ap (λ (q : Parts). record { number = 0; parts = q }) p ∙ sym (header-accepted s all)
 
 -- no body is so short

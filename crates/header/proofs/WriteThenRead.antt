@@ -16,8 +16,8 @@ use Rattle.header.proofs.Locations.{locations-back}
 use Rattle.header.proofs.Reading.{body-accepted, header-accepted}
 use Rattle.header.proofs.Times.{period-back, period-form, time-form, day-back, hour-back, minute-back}
 use Rattle.header.proofs.Writing.{write-refused, write-done, answered}
-use Rattle.header.specs.Body.{locationsBytes, timesBytes, bodyBytes, headTests, headForm, locationsForm, locationsOf, periodOf, periodForm, dayOf, hourOf, minuteOf, timeForm, countIn, lengthTests, lengthForm, countOf, timesPart, bodyFormTests, bodyForm, bodyOf, readBodyOf}
-use Rattle.header.specs.Header.{headerBytes, stationAt, headerTests, headerForm, partsOf, readOf, writeNumber, writeOf, writeBytes}
+use Rattle.header.specs.Body.{locationsBytes, timesBytes, bodyBytes, headTests, headForm, locationsForm, locationsOf, periodIn, periodForm, dayIn, hourIn, minuteIn, timeForm, countIn, lengthTests, lengthForm, locationCount, timesPart, bodyFormTests, bodyForm, bodyOf, readBodyOf}
+use Rattle.header.specs.Header.{headerBytes, stationAt, headerTests, headerForm, partsIn, readOf, writeNumber, writeOf, writeBytes}
 use Rattle.header.specs.declared.Written.{Written}
 use Rattle.octets.proofs.Tests.{each-of, every-of, between-is}
 use Rattle.octets.specs.Bytes.{byteAt, part, same}
@@ -74,7 +74,7 @@ module _ (b : Body) (ok : bodyOk b ≡ true) where
   pub body-length : length (bodyBytes b) ≡ 26 + 7 * b .count
   body-length = length-body b (h .three) (omega (arith, h .few, h .long))
 
-  count-is : countOf (bodyBytes b) ≡ b .count
+  count-is : locationCount (bodyBytes b) ≡ b .count
   count-is = omega (arith, body-length)
 
   length-form : lengthForm (length (bodyBytes b)) ≡ true
@@ -128,10 +128,10 @@ module _ (b : Body) (ok : bodyOk b ≡ true) where
   body-back =
       let o = ap (λ (l : List ℕ). known (originatorOf l)) originator-part ∙ ap known (originator-back (b .originator)) in
       let l = ap (λ (k : ℕ). padded (locationsOf k (bodyBytes b) 12)) count-is ∙ ap padded (locations-part .1) ∙ padded-is (b .locations) (b .count) (h .long) (h .few) (h .rest) in
-      let p = ap periodOf times-part ∙ period-back (b .period) (b .day) (b .hour) (b .minute) (h .period) (h .first) (h .last) (h .hour) (h .minute) in
-      let d = ap dayOf times-part ∙ day-back (b .period) (b .day) (b .hour) (b .minute) (h .period) (h .first) (h .last) (h .hour) (h .minute) in
-      let u = ap hourOf times-part ∙ hour-back (b .period) (b .day) (b .hour) (b .minute) (h .period) (h .first) (h .last) (h .hour) (h .minute) in
-      let m = ap minuteOf times-part ∙ minute-back (b .period) (b .day) (b .hour) (b .minute) (h .period) (h .first) (h .last) (h .hour) (h .minute) in
+      let p = ap periodIn times-part ∙ period-back (b .period) (b .day) (b .hour) (b .minute) (h .period) (h .first) (h .last) (h .hour) (h .minute) in
+      let d = ap dayIn times-part ∙ day-back (b .period) (b .day) (b .hour) (b .minute) (h .period) (h .first) (h .last) (h .hour) (h .minute) in
+      let u = ap hourIn times-part ∙ hour-back (b .period) (b .day) (b .hour) (b .minute) (h .period) (h .first) (h .last) (h .hour) (h .minute) in
+      let m = ap minuteIn times-part ∙ minute-back (b .period) (b .day) (b .hour) (b .minute) (h .period) (h .first) (h .last) (h .hour) (h .minute) in
       λ i. record { originator = o i; event = event-part i; count = count-is i; locations = l i; period = p i; day = d i; hour = u i; minute = m i }
 
   -- reading the bytes of a body that a header has gives back that body
@@ -159,7 +159,7 @@ module _ (p : Parts) (ok : bodyOk (p .body) ≡ true) (st : stationOk (p .statio
   dash-is = sym (getD-drop (stationAt (headerBytes p)) (headerBytes p) 8 0) ∙ ap (λ (l : List ℕ). getD l 8 0) rest-is ∙ getD-at (p .station) 45 [] 0 8 (station-long (p .station) st)
 
   pub read-header-bytes : readOf (headerBytes p) ≡ record { number = 0; parts = p }
-  unfolding headerForm partsOf
+  unfolding headerForm partsIn
   read-header-bytes =
       let s = headerBytes p in
       let form = every-of (headerTests s)

@@ -71,36 +71,36 @@ unfoldable pub locationsRead : ℕ → List ℕ → ℕ → Locations
 locationsRead n s at = pick (locationsForm n s at) (record { ok = true; list = padded (locationsOf n s at) }) (record { ok = false; list = noLocations })
 
 -- `+TTTT` at the start of t: TTTT 0015, 0030, 0045, or hours 01 to 99 with minutes 00 or 30
-abbrev pub periodOf : List ℕ → ℕ
-periodOf t = value (part t 1 2) * 60 + value (part t 3 2)
+abbrev pub periodIn : List ℕ → ℕ
+periodIn t = value (part t 1 2) * 60 + value (part t 3 2)
 
 abbrev pub periodTests : List ℕ → List Bool
-periodTests t = eqb (byteAt t 0) plus ∷ inRange 0 99 (part t 1 2) ∷ inRange 0 59 (part t 3 2) ∷ isPeriod (periodOf t) ∷ []
+periodTests t = eqb (byteAt t 0) plus ∷ inRange 0 99 (part t 1 2) ∷ inRange 0 59 (part t 3 2) ∷ isPeriod (periodIn t) ∷ []
 
 unfoldable pub periodForm : List ℕ → Bool
 periodForm t = every holds (periodTests t)
 
 unfoldable pub periodRead : List ℕ → Num
-periodRead t = pick (periodForm t) (Value (periodOf t)) Bad
+periodRead t = pick (periodForm t) (Value (periodIn t)) Bad
 
 -- `-JJJHHMM-` behind it: day 001 to 366, time 0000 to 2359 with minutes to 59
-abbrev pub dayOf : List ℕ → ℕ
-dayOf t = value (part t 6 3)
+abbrev pub dayIn : List ℕ → ℕ
+dayIn t = value (part t 6 3)
 
-abbrev pub hourOf : List ℕ → ℕ
-hourOf t = value (part t 9 2)
+abbrev pub hourIn : List ℕ → ℕ
+hourIn t = value (part t 9 2)
 
-abbrev pub minuteOf : List ℕ → ℕ
-minuteOf t = value (part t 11 2)
+abbrev pub minuteIn : List ℕ → ℕ
+minuteIn t = value (part t 11 2)
 
-abbrev pub timeTests : List ℕ → List Bool
-timeTests t = eqb (byteAt t 5) dash ∷ inRange 1 366 (part t 6 3) ∷ inRange 0 23 (part t 9 2) ∷ inRange 0 59 (part t 11 2) ∷ eqb (byteAt t 13) dash ∷ []
+abbrev pub timeFormTests : List ℕ → List Bool
+timeFormTests t = eqb (byteAt t 5) dash ∷ inRange 1 366 (part t 6 3) ∷ inRange 0 23 (part t 9 2) ∷ inRange 0 59 (part t 11 2) ∷ eqb (byteAt t 13) dash ∷ []
 
 unfoldable pub timeForm : List ℕ → Bool
-timeForm t = every holds (timeTests t)
+timeForm t = every holds (timeFormTests t)
 
 unfoldable pub timeRead : List ℕ → Time
-timeRead t = pick (timeForm t) (At (dayOf t) (hourOf t) (minuteOf t)) No
+timeRead t = pick (timeForm t) (At (dayIn t) (hourIn t) (minuteIn t)) No
 
 -- ---- the whole
 
@@ -115,15 +115,15 @@ lengthTests n = between 1 31 (countIn n) ∷ eqb n (26 + 7 * countIn n) ∷ []
 unfoldable pub lengthForm : ℕ → Bool
 lengthForm n = every holds (lengthTests n)
 
-abbrev pub countOf : List ℕ → ℕ
-countOf s = countIn (length s)
+abbrev pub locationCount : List ℕ → ℕ
+locationCount s = countIn (length s)
 
 -- `+TTTT-JJJHHMM-`, behind the locations
 abbrev pub timesPart : List ℕ → List ℕ
-timesPart s = part s (12 + 7 * countOf s) 14
+timesPart s = part s (12 + 7 * locationCount s) 14
 
 abbrev pub bodyFormTests : List ℕ → List Bool
-bodyFormTests s = lengthForm (length s) ∷ headForm s ∷ locationsForm (countOf s) s 12 ∷ periodForm (timesPart s) ∷ timeForm (timesPart s) ∷ []
+bodyFormTests s = lengthForm (length s) ∷ headForm s ∷ locationsForm (locationCount s) s 12 ∷ periodForm (timesPart s) ∷ timeForm (timesPart s) ∷ []
 
 unfoldable pub bodyForm : List ℕ → Bool
 bodyForm s = every holds (bodyFormTests s)
@@ -132,12 +132,12 @@ unfoldable pub bodyOf : List ℕ → Body
 bodyOf s = record {
   originator = known (originatorOf (part s 5 3));
   event = part s 9 3;
-  count = countOf s;
-  locations = padded (locationsOf (countOf s) s 12);
-  period = periodOf (timesPart s);
-  day = dayOf (timesPart s);
-  hour = hourOf (timesPart s);
-  minute = minuteOf (timesPart s);
+  count = locationCount s;
+  locations = padded (locationsOf (locationCount s) s 12);
+  period = periodIn (timesPart s);
+  day = dayIn (timesPart s);
+  hour = hourIn (timesPart s);
+  minute = minuteIn (timesPart s);
 }
 
 -- a refusal returns its number, 17, and zeros elsewhere

@@ -29,15 +29,15 @@ headerTests s = bodyForm (take (stationAt s) s) ∷ stationOk (part s (stationAt
 unfoldable pub headerForm : List ℕ → Bool
 headerForm s = every holds (headerTests s)
 
-unfoldable pub partsOf : List ℕ → Parts
-partsOf s = record { body = bodyOf (take (stationAt s) s); station = part s (stationAt s) 8 }
+unfoldable pub partsIn : List ℕ → Parts
+partsIn s = record { body = bodyOf (take (stationAt s) s); station = part s (stationAt s) 8 }
 
 -- 17: header unreadable; zeros elsewhere
 abbrev pub refusal : Read
 refusal = record { number = 17; parts = record { body = noBody; station = noStation } }
 
 unfoldable pub readOf : List ℕ → Read
-readOf s = pick (headerForm s) (record { number = 0; parts = partsOf s }) refusal
+readOf s = pick (headerForm s) (record { number = 0; parts = partsIn s }) refusal
 
 -- ---- writing into a lent output d
 

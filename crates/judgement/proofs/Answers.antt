@@ -12,7 +12,7 @@ use borrow.Author.Tests.{eqb-true}
 use lib.Dec.{eqb}
 use Rattle.octets.proofs.Tests.{either-way}
 use Rattle.parts.specs.Originator.{isKnown}
-use Rattle.message.specs.WorkingMessage.{messageOf}
+use Rattle.message.specs.WorkingMessage.{messageSays}
 use Rattle.message.specs.declared.Message.{Message}
 use Rattle.leaves.proofs.Fits as fits
 use Rattle.judgement.specs.WorkingRules.{infoIn, eventIs, originOf, located, quietOf}
@@ -46,19 +46,19 @@ module _ (s : List ℕ) (m : Message) where
 
 pub number-small : (s : List ℕ) → judgedOf s .number ≤ 14
 number-small s =
-    let m = messageOf s in
+    let m = messageSays s in
     let most : m .number ≤ 14 = omega (arith, fits.number-small s) in
     judged-holds s m (λ (j : Judged). j .number ≤ 14) (λ e. most) (λ e. omega arith)
     (λ e. alerted-holds s m (λ (j : Judged). j .number ≤ 14) (λ n h. h) (omega arith))
 
 pub field-small : (s : List ℕ) → judgedOf s .field ≤ 7
-field-small s = rw (field-kept s (messageOf s)) (fits.field-small s)
+field-small s = rw (field-kept s (messageSays s)) (fits.field-small s)
 
 pub field-alone : (s : List ℕ) → (judgedOf s .number ≡ 7 → ⊥) → judgedOf s .field ≡ 0
 field-alone s h = field-kept s m ∙ fits.field-zero s (λ e. h (seven e))
   where
     m : Message
-    m = messageOf s
+    m = messageSays s
 
     seven : m .number ≡ 7 → judgedOf s .number ≡ 7
     seven e =

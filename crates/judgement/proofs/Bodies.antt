@@ -22,7 +22,7 @@ use Rattle.parts.specs.declared.Originator.{Originator}
 use Rattle.parts.proofs.Has.{ok-of, event-long, event-capitals}
 use Rattle.parts.proofs.Periods.{period-quarter, period-half}
 use Rattle.reads.specs.declared.Locations.{Locations}
-use Rattle.message.specs.WorkingMessage.{messageOf}
+use Rattle.message.specs.WorkingMessage.{messageSays}
 use Rattle.message.specs.declared.Message.{Message}
 use Rattle.leaves.proofs.Fits.{LocationsFit, locations-fit, sent-in}
 use Rattle.judgement.specs.WorkingRules.{infoIn, eventIs, originOf, located, quietOf}
@@ -102,7 +102,7 @@ some-of l h = let x = not-true (eqb (l .count) 0) (each-of (not (l .bad) ∷ not
 pub body-ok : (s : List ℕ) → judgedOf s .number ≡ 0 → judgedOf s .quiet ≡ false → bodyOk (judgedOf s .body) ≡ true
 unfolding eventIs
 body-ok s h q =
-    let m = messageOf s in
+    let m = messageSays s in
     let t = alerting s m h q in
     rw (alert-body s m t)
     (body-with (known (originOf s (infoIn m .parameters .originator))) (valueAt s (infoIn m .events .same .at)) (infoIn m .locations) (lasting s m) (m .sent)

@@ -12,7 +12,7 @@ use Rattle.parts.specs.Parts.{noBody}
 use Rattle.parts.specs.declared.Originator.{Originator}
 use Rattle.parts.specs.declared.Body.{Body}
 use Rattle.reads.specs.declared.Locations.{Locations}
-use Rattle.message.specs.WorkingMessage.{messageOf}
+use Rattle.message.specs.WorkingMessage.{messageSays}
 use Rattle.message.specs.declared.Message.{Message}
 use Rattle.judgement.specs.WorkingRules.{infoIn, expiresIn, eventIs, originOf, located, secondsTo, quietOf}
 use Rattle.judgement.specs.declared.Judged.{Judged}
@@ -65,4 +65,4 @@ unfoldable pub judgedBy : List ℕ → Message → Judged
 judgedBy s m = pick (eqb (m .number) 0) (pick (quietOf m) (without m 0 true) (alerted s m)) (without m (m .number) false)
 
 abbrev pub judgedOf : List ℕ → Judged
-judgedOf s = judgedBy s (messageOf s)
+judgedOf s = judgedBy s (messageSays s)

@@ -25,24 +25,24 @@ use Rattle.clock.specs.Time.{span, instantIn}
 use Rattle.clock.specs.declared.Time.{Time}
 use Rattle.clock.proofs.Times.{instant-low}
 use Rattle.parts.specs.Parts.{isLocation, isZero}
-use Rattle.faults.specs.WorkingField.{onward, lowest}
+use Rattle.faults.specs.WorkingField.{oneOn, lowest}
 use Rattle.markup.specs.Tree.{Forest, One, one, none}
 use Rattle.markup.specs.Document.{docAt}
 use Rattle.values.specs.Value.{valueAt}
 use Rattle.values.specs.WorkingSteps.{sixDigits}
 use Rattle.reads.specs.WorkingLeaves.{soundOf, pairOk, noInfo, sentLeaf, referencesLeaf}
-use Rattle.reads.specs.WorkingSteps.{says, placed, locationOf, locationStep, audioOf, isAudio, audioStep}
+use Rattle.reads.specs.WorkingSteps.{says, withLocation, locationOf, locationStep, audioOf, isAudio, audioStep}
 use Rattle.reads.specs.declared.Leaf.{Leaf}
 use Rattle.reads.specs.declared.Locations.{Locations}
 use Rattle.reads.specs.declared.Audio.{Audio}
 use Rattle.reads.specs.declared.Info.{Info}
 use Rattle.reads.specs.declared.Alert.{Alert}
 use Rattle.gather.specs.Read.{Element, named}
-use Rattle.gather.specs.WorkingRead.{leafIn, location, area, resource, infoOf, fromEnglish, selected, alertOf}
+use Rattle.gather.specs.WorkingRead.{leafIn, withGeocode, withArea, withResource, infoOf, fromEnglish, selected, alertOf}
 use Rattle.fields.specs.declared.MsgType.{MsgType}
 use Rattle.message.specs.Root.{prefixOf, rootOk}
 use Rattle.message.specs.WorkingJudged.{onlyOf, timed, statusOf, msgTypeOf, scopeOf, isAckOrError, asksReferences, referenced, faultsWith, fieldOf, numberWith}
-use Rattle.message.specs.WorkingMessage.{refusedAs, judged, passed, ofRoot, messageOf}
+use Rattle.message.specs.WorkingMessage.{refusedAs, judged, judgedRoot, ofRoot, messageSays}
 use Rattle.message.specs.declared.Message.{Message}
 
 -- ---- locations and audio that fit
@@ -82,8 +82,8 @@ drop-more zero (x ∷ l) h = every-rest isZero x l h
 drop-more (suc n) [] h = h
 drop-more (suc n) (x ∷ l) h = drop-more n l h
 
-placed-fit : (e : Locations) (v : ℕ) → v < 1000000 → LocationsFit e → LocationsFit (placed e v)
-unfolding placed isLocation
+placed-fit : (e : Locations) (v : ℕ) → v < 1000000 → LocationsFit e → LocationsFit (withLocation e v)
+unfolding withLocation isLocation
 placed-fit e v h f = either-way LocationsFit (leb 31 (e .count)) _ _ (λ q. f) more
   where
     more : leb 31 (e .count) ≡ false → LocationsFit (record { count = e .count + 1; list = set (e .list) (e .count) v; bad = e .bad; fault = e .fault })
@@ -98,7 +98,7 @@ placed-fit e v h f = either-way LocationsFit (leb 31 (e .count)) _ _ (λ q. f) m
           zeros = rw (add-one n, drop-set-lt (suc n) (e .list) n v (omega arith)) (drop-more n (e .list) (f .zeros));
         }
 
-pub location-fits : (s p : List ℕ) (x : Locations) (e : Element) → LocationsFit x → LocationsFit (location s p x e)
+pub location-fits : (s p : List ℕ) (x : Locations) (e : Element) → LocationsFit x → LocationsFit (withGeocode s p x e)
 unfolding locationStep
 location-fits s p x e h =
     either-way LocationsFit (pairOk name value) _ _
@@ -122,7 +122,7 @@ audio-most s n =
     (λ q. either-way (λ (k : ℕ). k ≤ 3) (says s n (bytes "audio/x-ipaws-audio-wav")) _ _ (λ q. omega arith)
     (λ q. either-way (λ (k : ℕ). k ≤ 3) (says s n (bytes "audio/x-ipaws-streaming-audio-mp3")) _ _ (λ q. omega arith) (λ q. omega arith)))
 
-resource-fits : (s p : List ℕ) (x : Audio) (e : Element) → AudioFits s x → AudioFits s (resource s p x e)
+resource-fits : (s p : List ℕ) (x : Audio) (e : Element) → AudioFits s x → AudioFits s (withResource s p x e)
 unfolding audioStep
 resource-fits s p x e h =
     either-way (AudioFits s) (soundOf mime && soundOf uri) _ _
@@ -149,8 +149,8 @@ module _ (s : List ℕ) where
   info-holds P nothing each p (x ∷ xs) es = each p (x .holds)
 
   -- of each refusal and of what is judged: of every message
-  pub message-holds : (P : Message → Type 0) → ((n : ℕ) → 1 ≤ n → n ≤ 6 → P (refusedAs (length s) n)) → ((p : List ℕ) (t : Forest) → P (judged s (alertOf s p t))) → P (messageOf s)
-  unfolding messageOf ofRoot passed
+  pub message-holds : (P : Message → Type 0) → ((n : ℕ) → 1 ≤ n → n ≤ 6 → P (refusedAs (length s) n)) → ((p : List ℕ) (t : Forest) → P (judged s (alertOf s p t))) → P (messageSays s)
+  unfolding messageSays ofRoot judgedRoot
   message-holds P refuse judge = either-way P (between 1 32768 (length s)) _ _ (λ q. go (docAt s)) (λ q. refuse 4 (omega arith) (omega arith))
     where
       go : (o : One) → P (ofRoot s o)
@@ -158,7 +158,7 @@ module _ (s : List ℕ) where
       go (one g kids e) = either-way P (rootOk s (g .from + 1) (g .name)) _ _ (λ q. judge (prefixOf s (g .from + 1) (g .name)) kids) (λ q. refuse 6 (omega arith) (omega arith))
 
   -- of nothing read and of what is read in each info: of the info that is answered
-  selected-holds : (P : Info → Type 0) → P (noInfo (length s)) → ((p : List ℕ) (t : Forest) → P (infoOf s p t)) → P (messageOf s .alert .info)
+  selected-holds : (P : Info → Type 0) → P (noInfo (length s)) → ((p : List ℕ) (t : Forest) → P (infoOf s p t)) → P (messageSays s .alert .info)
   unfolding judged alertOf
   selected-holds P nothing each = message-holds (λ (m : Message). P (m .alert .info)) (λ n k l. nothing) (λ p t. info-holds P nothing each p (fromEnglish s p (named s p "info" t)) (named s p "info" t))
 
@@ -169,26 +169,26 @@ no-locations-fit n = record { few = omega arith; long = refl; six = refl; zeros 
 pub info-locations-fit : (s p : List ℕ) (t : Forest) → LocationsFit (infoOf s p t .locations)
 unfolding infoOf
 info-locations-fit s p t =
-    fold-holds LocationsFit (area s p)
-    (λ x e h. fold-holds LocationsFit (location s p) (location-fits s p) (named s p "geocode" (e .holds)) x h)
+    fold-holds LocationsFit (withArea s p)
+    (λ x e h. fold-holds LocationsFit (withGeocode s p) (location-fits s p) (named s p "geocode" (e .holds)) x h)
     (named s p "area" t) (noInfo (length s) .locations) (no-locations-fit (length s))
 
-pub locations-fit : (s : List ℕ) → LocationsFit (messageOf s .alert .info .locations)
+pub locations-fit : (s : List ℕ) → LocationsFit (messageSays s .alert .info .locations)
 locations-fit s = selected-holds s (λ (i : Info). LocationsFit (i .locations)) (no-locations-fit (length s)) (info-locations-fit s)
 
 no-audio-fits : (s : List ℕ) → AudioFits s (noInfo (length s) .audio)
 no-audio-fits s = record { number = omega arith; uri = λ q. cc }
 
-audio-holds : (s : List ℕ) → AudioFits s (messageOf s .alert .info .audio)
+audio-holds : (s : List ℕ) → AudioFits s (messageSays s .alert .info .audio)
 unfolding infoOf
 audio-holds s =
     selected-holds s (λ (i : Info). AudioFits s (i .audio)) (no-audio-fits s)
-    (λ p t. fold-holds (AudioFits s) (resource s p) (resource-fits s p) (named s p "resource" t) (noInfo (length s) .audio) (no-audio-fits s))
+    (λ p t. fold-holds (AudioFits s) (withResource s p) (resource-fits s p) (named s p "resource" t) (noInfo (length s) .audio) (no-audio-fits s))
 
-pub audio-number : (s : List ℕ) → messageOf s .alert .info .audio .number ≤ 3
+pub audio-number : (s : List ℕ) → messageSays s .alert .info .audio .number ≤ 3
 audio-number s = audio-holds s .number
 
-pub audio-fits : (s : List ℕ) → let a = messageOf s .alert .info .audio in eqb (a .number) 0 ≡ false → between 1 1024 (length (valueAt s (a .uri))) ≡ true
+pub audio-fits : (s : List ℕ) → let a = messageSays s .alert .info .audio in eqb (a .number) 0 ≡ false → between 1 1024 (length (valueAt s (a .uri))) ≡ true
 audio-fits s = audio-holds s .uri
 
 -- ---- sent
@@ -197,7 +197,7 @@ timed-in : (s : List ℕ) (l : Leaf) → instantIn (timed s l) < span
 unfolding timed
 timed-in s l = either-way (λ (t : Time). instantIn t < span) (onlyOf l) _ _ (λ q. instant-low (valueAt s (l .at))) (λ q. omega arith)
 
-pub sent-in : (s : List ℕ) → messageOf s .sent < span
+pub sent-in : (s : List ℕ) → messageSays s .sent < span
 unfolding judged
 sent-in s = message-holds s (λ (m : Message). m .sent < span) (λ n k l. omega arith) (λ p t. timed-in s (sentLeaf (alertOf s p t)))
 
@@ -208,7 +208,7 @@ lowest-most [] = omega arith
 lowest-most (true ∷ bs) = omega arith
 lowest-most (false ∷ bs) = go (lowest bs) (lowest-most bs)
   where
-    go : (n : ℕ) → n ≤ length bs → onward n ≤ suc (length bs)
+    go : (n : ℕ) → n ≤ length bs → oneOn n ≤ suc (length bs)
     go zero h = omega arith
     go (suc n) h = omega arith
 
@@ -233,22 +233,22 @@ number-fits s field status scope t l =
     beside : (n : ℕ) → eqb field 0 ≡ true → n ≤ 10 → Fit n
     beside n q h = record { small = h; seven = λ x. eqb-true field 0 q }
 
-number-holds : (s : List ℕ) → NumberFits (messageOf s .number) (messageOf s .field)
+number-holds : (s : List ℕ) → NumberFits (messageSays s .number) (messageSays s .field)
 unfolding judged
 number-holds s =
     message-holds s (λ (m : Message). NumberFits (m .number) (m .field)) (λ n k l. record { small = omega arith; seven = λ x. refl })
     (λ p t. let a = alertOf s p t in number-fits s (fieldOf s a) (statusOf s a) (scopeOf s a) (msgTypeOf s a) (referencesLeaf a))
 
-pub number-small : (s : List ℕ) → messageOf s .number ≤ 10
+pub number-small : (s : List ℕ) → messageSays s .number ≤ 10
 number-small s = number-holds s .small
 
 field-most : (s : List ℕ) (a : Alert) → fieldOf s a ≤ 7
 field-most s a = lowest-most (faultsWith s a (timed s (sentLeaf a)) (statusOf s a) (msgTypeOf s a) (scopeOf s a))
 
-pub field-small : (s : List ℕ) → messageOf s .field ≤ 7
+pub field-small : (s : List ℕ) → messageSays s .field ≤ 7
 unfolding judged
 field-small s = message-holds s (λ (m : Message). m .field ≤ 7) (λ n k l. omega arith) (λ p t. field-most s (alertOf s p t))
 
 -- a field is answered only beside number 7
-pub field-zero : (s : List ℕ) → (messageOf s .number ≡ 7 → ⊥) → messageOf s .field ≡ 0
+pub field-zero : (s : List ℕ) → (messageSays s .number ≡ 7 → ⊥) → messageSays s .field ≡ 0
 field-zero s = number-holds s .seven

@@ -14,7 +14,7 @@ use Rattle.octets.proofs.Tests.{either-way}
 use Prim.Native.String.{String}
 use Rattle.markup.specs.Tree.{Forest, nil, text, elem, One, one, none}
 use Rattle.markup.specs.Document.{docAt}
-use Rattle.reads.specs.WorkingLeaves.{blank, found, soundOf, pairOk, noInfo, fresh}
+use Rattle.reads.specs.WorkingLeaves.{noLeaf, found, soundOf, pairOk, noInfo, nothingRead}
 use Rattle.reads.specs.WorkingSteps.{says, isAudio, eventStep, parameterStep, audioStep, english}
 use Rattle.reads.specs.declared.Leaf.{Leaf}
 use Rattle.reads.specs.declared.Events.{Events}
@@ -23,9 +23,9 @@ use Rattle.reads.specs.declared.Audio.{Audio}
 use Rattle.reads.specs.declared.Info.{Info}
 use Rattle.reads.specs.declared.Alert.{Alert}
 use Rattle.gather.specs.Read.{Element, nameIn, keep, named, bare}
-use Rattle.gather.specs.WorkingRead.{placeIn, markedIf, added, leafIn, event, parameter, resource, infoOf, languageIn, fromEnglish, selected, alertOf}
+use Rattle.gather.specs.WorkingRead.{placeIn, markedIf, withLeaf, leafIn, withEvent, withParameter, withResource, infoOf, languageIn, fromEnglish, selected, alertOf}
 use Rattle.message.specs.Root.{prefixOf, rootOk}
-use Rattle.message.specs.WorkingMessage.{judged, passed, ofRoot, messageOf}
+use Rattle.message.specs.WorkingMessage.{judged, judgedRoot, ofRoot, messageSays}
 use Rattle.message.specs.declared.Message.{Message}
 use Rattle.leaves.proofs.Reals.{Real, AllReal, leaf-is}
 
@@ -68,7 +68,7 @@ module _ (s : List ℕ) where
     audio = omega arith;
   }
 
-  fresh-in : AlertIn (fresh (length s) .alert)
+  fresh-in : AlertIn (nothingRead (length s) .alert)
   fresh-in = record {
     leaf = (omega arith, (omega arith, (omega arith, (omega arith, (omega arith, (omega arith, (omega arith, tt)))))));
     info = nothing-in;
@@ -79,7 +79,7 @@ module _ (s : List ℕ) where
   found-in : (l : Leaf) (i : ℕ) → In l → i ≤ length s → In (found l i)
   found-in l i h k = either-way (λ (n : ℕ). n ≤ length s) (eqb (l .count) 0) i (l .at) (λ _. k) (λ _. h)
 
-  added-in : (l : Leaf) (e : Element) → Real s (e .tag) (e .holds) → AllReal s (e .holds) → In l → In (added s l e)
+  added-in : (l : Leaf) (e : Element) → Real s (e .tag) (e .holds) → AllReal s (e .holds) → In l → In (withLeaf s l e)
   added-in l e r a h = go (bare (e .holds))
     where
       go : (b : Bool) → In (found (markedIf (not b) l) (placeIn s (e .tag)))
@@ -135,17 +135,17 @@ module _ (s p : List ℕ) where
       go false h = h
 
   pub leaf-inside : (w : String) (t : Forest) → AllReal s t → In s (leafIn s p w t)
-  leaf-inside w t r = fold-keeps s (In s) (added s) (added-in s) (named s p w t) (named-real w t r) (blank (length s)) (omega arith)
+  leaf-inside w t r = fold-keeps s (In s) (withLeaf s) (added-in s) (named s p w t) (named-real w t r) (noLeaf (length s)) (omega arith)
 
   info-in : (t : Forest) → AllReal s t → InfoIn s (infoOf s p t)
   unfolding infoOf
   info-in t r = record {
     leaf = (leaf-inside "language" t r, (leaf-inside "expires" t r, (leaf-inside "senderName" t r, (leaf-inside "description" t r, (leaf-inside "instruction" t r, tt)))));
-    events = fold-keeps s (EventsIn s) (event s p) (λ x e q a. event-in s x (leafIn s p "valueName" (e .holds)) (leafIn s p "value" (e .holds)) (leaf-inside "value" (e .holds) a))
+    events = fold-keeps s (EventsIn s) (withEvent s p) (λ x e q a. event-in s x (leafIn s p "valueName" (e .holds)) (leafIn s p "value" (e .holds)) (leaf-inside "value" (e .holds) a))
         (named s p "eventCode" t) (named-real "eventCode" t r) (noInfo (length s) .events) (omega arith);
-    parameters = fold-keeps s (ParametersIn s) (parameter s p) (λ x e q a. parameter-in s x (leafIn s p "valueName" (e .holds)) (leafIn s p "value" (e .holds)) (leaf-inside "value" (e .holds) a))
+    parameters = fold-keeps s (ParametersIn s) (withParameter s p) (λ x e q a. parameter-in s x (leafIn s p "valueName" (e .holds)) (leafIn s p "value" (e .holds)) (leaf-inside "value" (e .holds) a))
         (named s p "parameter" t) (named-real "parameter" t r) (noInfo (length s) .parameters) (record { originator = omega arith; text = omega arith; carry = omega arith });
-    audio = fold-keeps s (AudioIn s) (resource s p) (λ x e q a. audio-in s x (leafIn s p "mimeType" (e .holds)) (leafIn s p "uri" (e .holds)) (leaf-inside "uri" (e .holds) a))
+    audio = fold-keeps s (AudioIn s) (withResource s p) (λ x e q a. audio-in s x (leafIn s p "mimeType" (e .holds)) (leafIn s p "uri" (e .holds)) (leaf-inside "uri" (e .holds) a))
         (named s p "resource" t) (named-real "resource" t r) (noInfo (length s) .audio) (omega arith);
   }
 
@@ -168,8 +168,8 @@ module _ (s p : List ℕ) where
   }
 
 -- what is absent or refused stands at the message's end
-pub message-inside : (s : List ℕ) → AlertIn s (messageOf s .alert)
-unfolding messageOf ofRoot passed judged
+pub message-inside : (s : List ℕ) → AlertIn s (messageSays s .alert)
+unfolding messageSays ofRoot judgedRoot judged
 message-inside s = either-way Inside (between 1 32768 (length s)) _ _ (λ _. go (docAt s) refl) (λ _. fresh-in s)
   where
     Inside : Message → Type 0

@@ -19,12 +19,12 @@ use Rattle.tags.specs.Tags.{openAt, closeAt}
 use Rattle.tags.specs.declared.Open.{Open}
 use Rattle.tags.specs.declared.Open.the-variants.{Full, Empty, Shut}
 use Rattle.tags.proofs.Goes.{OpenGoes, open-goes}
-use Rattle.markup.specs.Tree.{Tag, Forest, nil, text, elem, One, one, none, Held, held, bad, put, child, turn, items, sealed, closed, opened, elemAt, contentAt}
-use Rattle.markup.specs.Document.{declarationAt, miscAt, led, leadAt, ended, rooted, rootAt, docAt}
+use Rattle.markup.specs.Tree.{Tag, Forest, nil, text, elem, One, one, none, Held, held, bad, inFront, child, pieceThen, items, sealed, closed, opened, elemAt, contentAt}
+use Rattle.markup.specs.Document.{declarationAt, miscAt, led, beforeRoot, ended, rooted, rootAt, docAt}
 use Rattle.markup.proofs.Goes.{OneGoes, HeldGoes, items-goes, elem-goes}
 use Rattle.values.specs.Value.{runs, trimmed, collapsed, valueAt}
 use Rattle.values.proofs.Steps.{value-past}
-use Rattle.gather.specs.WorkingVisit.{placeOf}
+use Rattle.gather.specs.WorkingVisit.{leafPlace}
 use Rattle.gather.specs.WorkingRead.{placeIn}
 use Rattle.leaves.specs.Leaf.{decoded, leafValue}
 use Rattle.leaves.proofs.Trees.{value-of-items}
@@ -49,18 +49,18 @@ HeldReal s bad = Unit {0}
 
 module _ (s : List ℕ) (el : ℕ → One) where
   items-real : ((i : ℕ) → OneReal s (el i)) → (n i : ℕ) → HeldReal s (items el s n i)
-  unfolding items turn child put
+  unfolding items pieceThen child inFront
   items-real f zero i = tt
   items-real f (suc n) i = go (items-real f n) (pieceAt s i)
     where
       Rest : Type 0
       Rest = (j : ℕ) → HeldReal s (items el s n j)
 
-      texts : (j : ℕ) (h : Held) → HeldReal s h → HeldReal s (put (text i j) h)
+      texts : (j : ℕ) (h : Held) → HeldReal s h → HeldReal s (inFront (text i j) h)
       texts j (held t k) r = r
       texts j bad r = tt
 
-      elems : (g : Tag) (kids : Forest) → Real s g kids → AllReal s kids → (h : Held) → HeldReal s h → HeldReal s (put (elem g kids) h)
+      elems : (g : Tag) (kids : Forest) → Real s g kids → AllReal s kids → (h : Held) → HeldReal s h → HeldReal s (inFront (elem g kids) h)
       elems g kids x y (held t k) r = (x, y, r)
       elems g kids x y bad r = tt
 
@@ -68,7 +68,7 @@ module _ (s : List ℕ) (el : ℕ → One) where
       born w (one g kids j) r = elems g kids (r .0) (r .1) (items el s n j) (w j)
       born w none r = tt
 
-      go : Rest → (p : Piece) → HeldReal s (turn el i p (items el s n))
+      go : Rest → (p : Piece) → HeldReal s (pieceThen el i p (items el s n))
       go w (Text j) = texts j (items el s n j) (w j)
       go w (Note j) = w j
       go w Child = born w (el i) (f i)
@@ -77,7 +77,7 @@ module _ (s : List ℕ) (el : ℕ → One) where
 
 -- what ends where it begins holds nothing
 empty-held : (s : List ℕ) (d i : ℕ) (t : Forest) → contentAt s d i ≡ held t i → t ≡ nil
-unfolding items turn child put
+unfolding items pieceThen child inFront
 empty-held s d i t e = go (pieceAt s i) (piece-goes s i) e
   where
     n : ℕ
@@ -92,7 +92,7 @@ empty-held s d i t e = go (pieceAt s i) (piece-goes s i) e
     never : bad ≡ held t i → t ≡ nil
     never q = absurd (let z : _≡_ {A = ℕ} 0 1 = cc in omega arith)
 
-    back : (j : ℕ) (f : Forest → Forest) (h : Held) → HeldGoes s j h → i < j → put f h ≡ held t i → t ≡ nil
+    back : (j : ℕ) (f : Forest → Forest) (h : Held) → HeldGoes s j h → i < j → inFront f h ≡ held t i → t ≡ nil
     back j f (held u k) g l q = let x = g .0 in let y = at q in absurd (omega arith)
     back j f bad g l q = never q
 
@@ -104,7 +104,7 @@ empty-held s d i t e = go (pieceAt s i) (piece-goes s i) e
     born (one g kids j) r q = back j (elem g kids) (items (elemAt s d) s n j) (items-goes (elemAt s d) s (elem-goes s d) n j) (r .on) q
     born none r q = never q
 
-    go : (p : Piece) → PieceGoes s i p → turn (elemAt s d) i p (items (elemAt s d) s n) ≡ held t i → t ≡ nil
+    go : (p : Piece) → PieceGoes s i p → pieceThen (elemAt s d) i p (items (elemAt s d) s n) ≡ held t i → t ≡ nil
     go (Text j) g q = back j (text i j) (items (elemAt s d) s n j) (items-goes (elemAt s d) s (elem-goes s d) n j) (g .on) q
     go (Note j) g q = same j (items (elemAt s d) s n j) (items-goes (elemAt s d) s (elem-goes s d) n j) (g .on) q
     go Child g q = born (elemAt s d i) (elem-goes s d i) q
@@ -119,7 +119,7 @@ none-said s = refl
 
 -- an element that holds what stands from j to k
 real-at : (s : List ℕ) (d i a j k : ℕ) (kids : Forest) → j ≤ length s → contentAt s d j ≡ held kids k → Real s (record { from = i; name = a; body = j; shut = k }) kids
-unfolding placeOf
+unfolding leafPlace
 real-at s d i a j k kids l e = go (eqb j k) refl
   where
     go : (b : Bool) → eqb j k ≡ b → Real s (record { from = i; name = a; body = j; shut = k }) kids
@@ -129,7 +129,7 @@ real-at s d i a j k kids l e = go (eqb j k) refl
     go false q = record { inside = rw q l; value = rw q (value-of-items s (elemAt s d) (suc (length s)) j k kids e) }
 
 pub elem-real : (s : List ℕ) (d i : ℕ) → OneReal s (elemAt s d i)
-unfolding elemAt opened closed sealed placeOf
+unfolding elemAt opened closed sealed leafPlace
 elem-real s zero i = tt
 elem-real s (suc d) i = go (openAt s i) (open-goes s i) (items-real s (elemAt s d) (elem-real s d) (suc (length s)))
   where
@@ -157,7 +157,7 @@ elem-real s (suc d) i = go (openAt s i) (open-goes s i) (items-real s (elemAt s 
 
 -- of each element that the root of a message of the subset holds
 pub leaf-is : (s : List ℕ) (g : Tag) (kids : Forest) (e : ℕ) → docAt s ≡ one g kids e → AllReal s kids
-unfolding docAt leadAt led rootAt rooted ended
+unfolding docAt beforeRoot led rootAt rooted ended
 leaf-is s g kids e q = go (declarationAt s 0) q
   where
     is : (h : Tag) (f : Forest) (k : ℕ) → AllReal s f → one h f k ≡ one g kids e → AllReal s kids

@@ -9,10 +9,10 @@ use Rattle.octets.specs.Text.{bytes}
 use Rattle.pieces.specs.Classes.{mayStand, isStart, isNamed, isPlain, figureOf, isFigure}
 use Rattle.pieces.specs.Walk.{stepped, walk}
 use Rattle.pieces.specs.Pieces.{plainAt, short, nameAt, inNote, noteAt, wordedAt, numeralFrom, numberAt, refAt, charAt, inText, noted, referred, tagAt, pieceAt}
-use Rattle.tags.specs.Attributes.{over, bitAt, valueAt, valued, equalled, attrAt, sought, seekAt, attrNamed}
-use Rattle.tags.specs.Tags.{fresh, taken, takeAt, shutAt, tailAt, tailed, openAt, closeAt}
-use Rattle.markup.specs.Tree.{One, one, none, put, child, turn, items, sealed, closed, opened, elemAt}
-use Rattle.markup.specs.Document.{inDeclaration, declarationAt, passed, miscStep, miscAt, led, leadAt, ended, rooted, rootAt, docAt}
+use Rattle.tags.specs.Attributes.{over, bitAt, quotedAt, attributeOf, equalled, attrAt, sought, seekAt, attrNamed}
+use Rattle.tags.specs.Tags.{unlessNamed, taken, takeAt, shutAt, tailAt, tailed, openAt, closeAt}
+use Rattle.markup.specs.Tree.{One, one, none, inFront, child, pieceThen, items, sealed, closed, opened, elemAt}
+use Rattle.markup.specs.Document.{inDeclaration, declarationAt, goOn, miscStep, miscAt, led, beforeRoot, ended, rooted, rootAt, docAt}
 
 -- a text is a message of the subset
 unfoldable isOne : One → Bool
@@ -61,5 +61,5 @@ unfoldable right : Figure → Bool
 right f = pick (f .is) (good (f .text)) (not (good (f .text)))
 
 figures-hold : every right figures ≡ true
-unfolding isOne good right docAt leadAt led rootAt rooted ended miscAt miscStep passed declarationAt inDeclaration elemAt opened closed sealed items turn child put openAt tailed tailAt shutAt takeAt taken fresh closeAt attrNamed seekAt sought attrAt equalled valued valueAt bitAt over pieceAt tagAt referred noted inText charAt refAt numberAt numeralFrom wordedAt noteAt inNote nameAt short plainAt walk stepped isFigure figureOf isPlain isNamed isStart mayStand bytes scan isVisible isSpace isLetter isCapital isDigit oneOf between every same
+unfolding isOne good right docAt beforeRoot led rootAt rooted ended miscAt miscStep goOn declarationAt inDeclaration elemAt opened closed sealed items pieceThen child inFront openAt tailed tailAt shutAt takeAt taken unlessNamed closeAt attrNamed seekAt sought attrAt equalled attributeOf quotedAt bitAt over pieceAt tagAt referred noted inText charAt refAt numberAt numeralFrom wordedAt noteAt inNote nameAt short plainAt walk stepped isFigure figureOf isPlain isNamed isStart mayStand bytes scan isVisible isSpace isLetter isCapital isDigit oneOf between every same
 figures-hold = refl

@@ -26,8 +26,8 @@ use Rattle.tags.specs.Tags.{openAt, closeAt}
 use Rattle.tags.specs.declared.Open.{Open}
 use Rattle.tags.specs.declared.Open.the-variants.{Full, Empty, Shut}
 use Rattle.tags.proofs.Goes.{OpenGoes, open-goes, close-tag-goes}
-use Rattle.markup.specs.Tree.{Tag, Forest, text, elem, One, one, none, Held, held, bad, put, child, turn, items, sealed, closed, opened, elemAt, contentAt}
-use Rattle.markup.specs.Document.{inDeclaration, declarationAt, passed, miscStep, miscAt}
+use Rattle.markup.specs.Tree.{Tag, Forest, text, elem, One, one, none, Held, held, bad, inFront, child, pieceThen, items, sealed, closed, opened, elemAt, contentAt}
+use Rattle.markup.specs.Document.{inDeclaration, declarationAt, goOn, miscStep, miscAt}
 
 -- ---- elements, by the answers: where one ends, and where the end tag stands
 
@@ -39,8 +39,8 @@ abbrev pub HeldGoes : List ℕ → ℕ → Held → Type 0
 HeldGoes s i (held t j) = (i ≤ j) × (j < length s)
 HeldGoes s i bad = Unit {0}
 
-put-goes : (s : List ℕ) (i j : ℕ) (f : Forest → Forest) (h : Held) → i < j → HeldGoes s j h → HeldGoes s i (put f h)
-unfolding put
+put-goes : (s : List ℕ) (i j : ℕ) (f : Forest → Forest) (h : Held) → i < j → HeldGoes s j h → HeldGoes s i (inFront f h)
+unfolding inFront
 put-goes s i j f (held t k) l g = let a = g .0 in (omega arith, g .1)
 put-goes s i j f bad l g = tt
 
@@ -49,7 +49,7 @@ on-goes s i j (held t k) l g = let a = g .0 in (omega arith, g .1)
 on-goes s i j bad l g = tt
 
 pub items-goes : (el : ℕ → One) (s : List ℕ) → ((i : ℕ) → OneGoes s i (el i)) → (n i : ℕ) → HeldGoes s i (items el s n i)
-unfolding items child turn
+unfolding items child pieceThen
 items-goes el s f zero i = tt
 items-goes el s f (suc n) i = go (pieceAt s i) (piece-goes s i) (items-goes el s f n)
   where
@@ -57,7 +57,7 @@ items-goes el s f (suc n) i = go (pieceAt s i) (piece-goes s i) (items-goes el s
     inner (one x kids j) g r = put-goes s i j (elem x kids) (items el s n j) (g .on) (r j)
     inner none g r = tt
 
-    go : (p : Piece) → PieceGoes s i p → ((j : ℕ) → HeldGoes s j (items el s n j)) → HeldGoes s i (turn el i p (items el s n))
+    go : (p : Piece) → PieceGoes s i p → ((j : ℕ) → HeldGoes s j (items el s n j)) → HeldGoes s i (pieceThen el i p (items el s n))
     go (Text j) g r = put-goes s i j (text i j) (items el s n j) (g .on) (r j)
     go (Note j) g r = on-goes s i j (items el s n j) (g .on) (r j)
     go Child g r = inner (el i) (f i) r
@@ -101,14 +101,14 @@ decl-goes s i l = go (stands (60 ∷ 63 ∷ 120 ∷ 109 ∷ 108 ∷ []) s i) (is
     go false b c q = (omega arith, l)
 
 pub step-goes : (s : List ℕ) (i : ℕ) → i ≤ length s → StepGoes s i (miscStep s i)
-unfolding miscStep passed
+unfolding miscStep goOn
 step-goes s i l = go (isSpace (byteAt s i)) refl (stands (bytes "<!--") s i)
   where
-    pass : (x : End) → PastGoes s i x → StepGoes s i (passed x)
+    pass : (x : End) → PastGoes s i x → StepGoes s i (goOn x)
     pass (At j) g = g
     pass No g = tt
 
-    go : (a : Bool) → isSpace (byteAt s i) ≡ a → (b : Bool) → StepGoes s i (pick a (Go (i + 1)) (pick b (passed (noteAt s i)) (Stop i)))
+    go : (a : Bool) → isSpace (byteAt s i) ≡ a → (b : Bool) → StepGoes s i (pick a (Go (i + 1)) (pick b (goOn (noteAt s i)) (Stop i)))
     go true p b = let h = space-in s i p in record { on = omega arith; in-it = omega arith }
     go false p true = pass (noteAt s i) (note-goes s i)
     go false p false = (omega arith, l)

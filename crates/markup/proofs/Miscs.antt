@@ -20,7 +20,7 @@ use Rattle.pieces.specs.declared.Step.the-variants.{Go, Stop, Stuck}
 use Rattle.pieces.proofs.Inside.{space-in}
 use Rattle.pieces.proofs.Goes.{Goes}
 use Rattle.pieces.proofs.Walks.{Walking, walk-starts, step-on, walk-moves, walk-stops, walk-stuck}
-use Rattle.markup.specs.Document.{passed, miscStep, miscAt}
+use Rattle.markup.specs.Document.{goOn, miscStep, miscAt}
 use Rattle.markup.proofs.Goes.{step-goes}
 
 -- past the end neither white space nor a comment begins
@@ -31,7 +31,7 @@ misc-past s i h = go (isSpace (byteAt s i)) refl
     no : stands (60 ∷ 33 ∷ 45 ∷ 45 ∷ []) s i ≡ false
     no = let l : length s < i + 4 = omega arith in stands-past (60 ∷ 33 ∷ 45 ∷ 45 ∷ []) s i l (lit< tt)
 
-    go : (a : Bool) → isSpace (byteAt s i) ≡ a → pick a (Go (i + 1)) (pick (stands (60 ∷ 33 ∷ 45 ∷ 45 ∷ []) s i) (passed (noteAt s i)) (Stop i)) ≡ Stop i
+    go : (a : Bool) → isSpace (byteAt s i) ≡ a → pick a (Go (i + 1)) (pick (stands (60 ∷ 33 ∷ 45 ∷ 45 ∷ []) s i) (goOn (noteAt s i)) (Stop i)) ≡ Stop i
     go true p = let k = space-in s i p in absurd (omega arith)
     go false p = rw no
 

@@ -11,12 +11,12 @@ use lib.ListN.{length}
 use Rattle.pieces.specs.Pieces.{pieceAt}
 use Rattle.pieces.specs.declared.Piece.the-variants.{Text, Note, Child, Close, Bad}
 use Rattle.pieces.proofs.Goes.{Goes, piece-text, piece-note, piece-close}
-use Rattle.markup.specs.Tree.{Tag, Forest, nil, text, elem, one, none, Held, held, bad, put, child, turn, items, elemAt, contentAt}
+use Rattle.markup.specs.Tree.{Tag, Forest, nil, text, elem, one, none, Held, held, bad, inFront, child, pieceThen, items, elemAt, contentAt}
 use Rattle.markup.proofs.Goes.{elem-goes}
 
 module _ {S R : Type 0} (run : S → Held → R) (tx : ℕ → ℕ → S → S) (ex : Tag → Forest → S → S)
-    (run-text : (st : S) (i j : ℕ) (h : Held) → run st (put (text i j) h) ≡ run (tx i j st) h)
-    (run-elem : (st : S) (g : Tag) (kids : Forest) (h : Held) → run st (put (elem g kids) h) ≡ run (ex g kids st) h)
+    (run-text : (st : S) (i j : ℕ) (h : Held) → run st (inFront (text i j) h) ≡ run (tx i j st) h)
+    (run-elem : (st : S) (g : Tag) (kids : Forest) (h : Held) → run st (inFront (elem g kids) h) ≡ run (ex g kids st) h)
     (s : List ℕ) (d at : ℕ) (st₀ : S) where
   pub record Reading (i : ℕ) (st : S) : Type 0 where
     pub fuel : ℕ
@@ -45,19 +45,19 @@ module _ {S R : Type 0} (run : S → Held → R) (tx : ℕ → ℕ → S → S) 
         go (suc n) q = sym (mathlib.Core.Path.ap (run st) (t n)) ∙ q
 
     pub reading-text : (j : ℕ) → pieceAt s i ≡ Text j → Reading i st → Reading j (tx i j st)
-    unfolding items turn
+    unfolding items pieceThen
     reading-text j e = step j (tx i j st) (piece-text s i j e) (λ n. rw e (run-text st i j _))
 
     pub reading-note : (j : ℕ) → pieceAt s i ≡ Note j → Reading i st → Reading j st
-    unfolding items turn
+    unfolding items pieceThen
     reading-note j e = step j st (piece-note s i j e) (λ n. rw e)
 
     pub reading-child : (j : ℕ) (g : Tag) (kids : Forest) → pieceAt s i ≡ Child → elemAt s d i ≡ one g kids j → Reading i st → Reading j (ex g kids st)
-    unfolding items turn child
+    unfolding items pieceThen child
     reading-child j g kids e u = step j (ex g kids st) (rw u at (elem-goes s d i)) (λ n. rw (e, u) (run-elem st g kids _))
 
     pub reading-close : pieceAt s i ≡ Close → Reading i st → run st (held nil i) ≡ run st₀ (contentAt s d at)
-    unfolding items turn
+    unfolding items pieceThen
     reading-close e w = go (w .fuel) (w .room) (w .same)
       where
         go : (n : ℕ) → length s < i + n → run st (items (elemAt s d) s n i) ≡ run st₀ (contentAt s d at) → run st (held nil i) ≡ run st₀ (contentAt s d at)
@@ -65,9 +65,9 @@ module _ {S R : Type 0} (run : S → Held → R) (tx : ℕ → ℕ → S → S) 
         go (suc n) r q = sym (rw e) ∙ q
 
     pub reading-bad : pieceAt s i ≡ Bad → Reading i st → run st bad ≡ run st₀ (contentAt s d at)
-    unfolding items turn
+    unfolding items pieceThen
     reading-bad e = refuse (λ n. rw e)
 
     pub reading-none : pieceAt s i ≡ Child → elemAt s d i ≡ none → Reading i st → run st bad ≡ run st₀ (contentAt s d at)
-    unfolding items turn child
+    unfolding items pieceThen child
     reading-none e u = refuse (λ n. rw (e, u))

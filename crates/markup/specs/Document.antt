@@ -25,14 +25,14 @@ declarationAt s i =
     let e = scan (inDeclaration s) (length s) (i + 6) in
     pick (stands (bytes "<?xml") s i) (pick (isSpace (byteAt s (i + 5))) (pick (stands (bytes "?>") s e) (At (e + 2)) No) No) (At i)
 
-unfoldable pub passed : End → Step
-passed (At j) = Go j
-passed No = Stuck
+unfoldable pub goOn : End → Step
+goOn (At j) = Go j
+goOn No = Stuck
 
 -- over a white space, over a comment, or done where neither begins
 unfoldable pub miscStep : List ℕ → ℕ → Step
 miscStep s i =
-    pick (isSpace (byteAt s i)) (Go (i + 1)) (pick (stands (bytes "<!--") s i) (passed (noteAt s i)) (Stop i))
+    pick (isSpace (byteAt s i)) (Go (i + 1)) (pick (stands (bytes "<!--") s i) (goOn (noteAt s i)) (Stop i))
 
 -- white space and comments: where they end that begin at i
 unfoldable pub miscAt : List ℕ → ℕ → End
@@ -44,8 +44,8 @@ led s (At a) = miscAt s a
 led s No = No
 
 -- what stands before the root, from i on: where it ends
-unfoldable pub leadAt : List ℕ → ℕ → End
-leadAt s i = led s (declarationAt s i)
+unfoldable pub beforeRoot : List ℕ → ℕ → End
+beforeRoot s i = led s (declarationAt s i)
 
 -- behind the root, white space and comments go to the end
 unfoldable pub ended : List ℕ → One → End → One
@@ -63,4 +63,4 @@ rootAt s No = none
 
 -- the root of a message of the subset, read from the first byte on, with its place and what it holds; none where the message is not of the subset
 unfoldable pub docAt : List ℕ → One
-docAt s = rootAt s (leadAt s 0)
+docAt s = rootAt s (beforeRoot s 0)

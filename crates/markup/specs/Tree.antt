@@ -38,27 +38,27 @@ pub data Held : Type 0 where
   bad : Held
 
 -- one more in front of what is held
-unfoldable pub put : (Forest → Forest) → Held → Held
-put f (held t j) = held (f t) j
-put f bad = bad
+unfoldable pub inFront : (Forest → Forest) → Held → Held
+inFront f (held t j) = held (f t) j
+inFront f bad = bad
 
 -- an element, and then the rest
 unfoldable pub child : One → (ℕ → Held) → Held
-child (one g kids j) rest = put (elem g kids) (rest j)
+child (one g kids j) rest = inFront (elem g kids) (rest j)
 child none rest = bad
 
 -- the piece at i, and then the rest; an end tag ends what is held
-unfoldable pub turn : (ℕ → One) → ℕ → Piece → (ℕ → Held) → Held
-turn el i (Text j) rest = put (text i j) (rest j)
-turn el i (Note j) rest = rest j
-turn el i Child rest = child (el i) rest
-turn el i Close rest = held nil i
-turn el i Bad rest = bad
+unfoldable pub pieceThen : (ℕ → One) → ℕ → Piece → (ℕ → Held) → Held
+pieceThen el i (Text j) rest = inFront (text i j) (rest j)
+pieceThen el i (Note j) rest = rest j
+pieceThen el i Child rest = child (el i) rest
+pieceThen el i Close rest = held nil i
+pieceThen el i Bad rest = bad
 
 -- what is held from i on, in n turns at most, where el reads an element
 unfoldable pub items : (ℕ → One) → List ℕ → ℕ → ℕ → Held
 items el s zero i = bad
-items el s (suc n) i = turn el i (pieceAt s i) (items el s n)
+items el s (suc n) i = pieceThen el i (pieceAt s i) (items el s n)
 
 -- the end tag, if it stands there
 unfoldable pub sealed : Tag → Forest → End → One

@@ -21,7 +21,7 @@ use Rattle.tags.specs.declared.Open.{Open}
 use Rattle.tags.specs.declared.Open.the-variants.{Full, Empty, Shut}
 use Rattle.markup.specs.Tree.{Tag, Forest, nil, text, elem, One, one, none, Held, held, bad, sealed, closed, opened, elemAt, contentAt}
 use Rattle.markup.specs.Document.{miscAt, ended, rooted}
-use Rattle.reads.specs.WorkingLeaves.{fresh}
+use Rattle.reads.specs.WorkingLeaves.{nothingRead}
 use Rattle.reads.specs.Names.{inside}
 use Rattle.reads.specs.declared.State.{State}
 use Rattle.gather.specs.WorkingVisit.{touchIn, left, visit, gotOne}
@@ -29,24 +29,24 @@ use Rattle.gather.specs.WorkingRead.{alertOf}
 use Rattle.gather.specs.declared.Got.{Got}
 use Rattle.gather.proofs.Gathers.{gathers}
 use Rattle.message.specs.Root.{beforeColon, colonAt, prefixOf, xmlnsOf, rootWith, rootOk}
-use Rattle.message.specs.WorkingMessage.{refusedAs, judged, passed, rootContext, ofRoot}
+use Rattle.message.specs.WorkingMessage.{refusedAs, judged, judgedRoot, rootContext, ofRoot}
 
 -- the pass over an accepted root gathers what is read in it
-root-gathers : (s p : List ℕ) (g : Tag) (kids : Forest) → visit s p (rootContext true) (fresh (length s)) (elem g kids nil) .alert ≡ alertOf s p kids
+root-gathers : (s p : List ℕ) (g : Tag) (kids : Forest) → visit s p (rootContext true) (nothingRead (length s)) (elem g kids nil) .alert ≡ alertOf s p kids
 unfolding rootContext visit inside touchIn left
 root-gathers s p g kids = ap (λ (x : State). x .alert) (gathers s p kids)
 
 -- ---- what the pass answers
 
-module _ (s p : List ℕ) (ok : Bool) (o : One) (r : Got) (got : r ≡ gotOne s p (rootContext ok) (fresh (length s)) o) where
-  end-is : (e : End) → r .end ≡ e → gotOne s p (rootContext ok) (fresh (length s)) o .end ≡ e
+module _ (s p : List ℕ) (ok : Bool) (o : One) (r : Got) (got : r ≡ gotOne s p (rootContext ok) (nothingRead (length s)) o) where
+  end-is : (e : End) → r .end ≡ e → gotOne s p (rootContext ok) (nothingRead (length s)) o .end ≡ e
   end-is e q = ap (λ (x : Got). x .end) (sym got) ∙ q
 
-  pub pass-none : r .end ≡ No → refusedAs (length s) 5 ≡ passed s p ok (rooted s o)
-  unfolding gotOne passed rooted
+  pub pass-none : r .end ≡ No → refusedAs (length s) 5 ≡ judgedRoot s p ok (rooted s o)
+  unfolding gotOne judgedRoot rooted
   pass-none q = go o (end-is No q)
     where
-      go : (o : One) → gotOne s p (rootContext ok) (fresh (length s)) o .end ≡ No → refusedAs (length s) 5 ≡ passed s p ok (rooted s o)
+      go : (o : One) → gotOne s p (rootContext ok) (nothingRead (length s)) o .end ≡ No → refusedAs (length s) 5 ≡ judgedRoot s p ok (rooted s o)
       go (one g kids k) e = absurd (differ (sym e))
       go none e = refl
 
@@ -56,25 +56,25 @@ module _ (s p : List ℕ) (ok : Bool) (o : One) (r : Got) (got : r ≡ gotOne s 
     unfolding gotOne
     by-root {A} f = go o refl (end-is (At j) q)
       where
-        go : (x : One) → o ≡ x → gotOne s p (rootContext ok) (fresh (length s)) x .end ≡ At j → A
+        go : (x : One) → o ≡ x → gotOne s p (rootContext ok) (nothingRead (length s)) x .end ≡ At j → A
         go (one g kids k) u e = f g kids (u ∙ ap (one g kids) (at-is e))
         go none u e = absurd (differ e)
 
-    pub pass-unended : miscAt s j ≡ No → refusedAs (length s) 5 ≡ passed s p ok (rooted s o)
-    unfolding passed rooted ended
+    pub pass-unended : miscAt s j ≡ No → refusedAs (length s) 5 ≡ judgedRoot s p ok (rooted s o)
+    unfolding judgedRoot rooted ended
     pass-unended m = by-root (λ g kids u. rw (u, m))
 
     module _ (k : ℕ) (m : miscAt s j ≡ At k) where
-      pub pass-more : (k ≡ length s → ⊥) → refusedAs (length s) 5 ≡ passed s p ok (rooted s o)
-      unfolding passed rooted ended
+      pub pass-more : (k ≡ length s → ⊥) → refusedAs (length s) 5 ≡ judgedRoot s p ok (rooted s o)
+      unfolding judgedRoot rooted ended
       pass-more h = by-root (λ g kids u. rw (u, m, ne-eqb k (length s) h))
 
-      pub pass-other : k ≡ length s → ok ≡ false → refusedAs (length s) 6 ≡ passed s p ok (rooted s o)
-      unfolding passed rooted ended
+      pub pass-other : k ≡ length s → ok ≡ false → refusedAs (length s) 6 ≡ judgedRoot s p ok (rooted s o)
+      unfolding judgedRoot rooted ended
       pass-other h b = by-root (λ g kids u. rw (u, m, eq-eqb k (length s) h, b))
 
-      pub pass-is : k ≡ length s → ok ≡ true → judged s (r .state .alert) ≡ passed s p ok (rooted s o)
-      unfolding passed rooted ended gotOne
+      pub pass-is : k ≡ length s → ok ≡ true → judged s (r .state .alert) ≡ judgedRoot s p ok (rooted s o)
+      unfolding judgedRoot rooted ended gotOne
       pass-is h b = by-root (λ g kids u.
           let e : r .state .alert ≡ alertOf s p kids = ap (λ (x : Got). x .state .alert) got ∙ rw (u, b) (root-gathers s p g kids) in
           ap (judged s) e ∙ rw (u, m, eq-eqb k (length s) h, b))
@@ -141,12 +141,12 @@ module _ (s : List ℕ) (i : ℕ) where
 
   -- a root whose name ends at a is judged by that name
   pub root-named : (a : ℕ) → nameAt s (i + 1) ≡ At a
-      → passed s (prefixOf s (i + 1) a) (rootOk s (i + 1) a) (rooted s (elemAt s 12 i)) ≡ ofRoot s (rooted s (elemAt s 12 i))
-  unfolding elemAt rooted ended passed ofRoot
+      → judgedRoot s (prefixOf s (i + 1) a) (rootOk s (i + 1) a) (rooted s (elemAt s 12 i)) ≡ ofRoot s (rooted s (elemAt s 12 i))
+  unfolding elemAt rooted ended judgedRoot ofRoot
   root-named a e = go (elemAt s 12 i) refl
     where
       Same : One → Type 0
-      Same o = passed s (prefixOf s (i + 1) a) (rootOk s (i + 1) a) o ≡ ofRoot s o
+      Same o = judgedRoot s (prefixOf s (i + 1) a) (rootOk s (i + 1) a) o ≡ ofRoot s o
 
       by-tag : (g : Tag) (kids : Forest) (j : ℕ) → Tagged i a g → Same (one g kids j)
       by-tag g kids j t = rw (t .from, t .name)

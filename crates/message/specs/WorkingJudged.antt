@@ -31,14 +31,14 @@ unfoldable pub timed : List ℕ → Leaf → Time
 timed s l = pick (onlyOf l) (timeOf (valueAt s (l .at))) Time.Bad
 
 -- status and scope: the place of the value among those of CAP 1.2; 0 for one unknown to it
-unfoldable pub valued : List ℕ → List String → Leaf → ℕ
-valued s ws l = pick (onlyOf l) (indexIn ws (valueAt s (l .at))) 0
+unfoldable pub placeAmong : List ℕ → List String → Leaf → ℕ
+placeAmong s ws l = pick (onlyOf l) (indexIn ws (valueAt s (l .at))) 0
 
 abbrev pub statusOf : List ℕ → Alert → ℕ
-statusOf s a = valued s statuses (statusLeaf a)
+statusOf s a = placeAmong s statuses (statusLeaf a)
 
 abbrev pub scopeOf : List ℕ → Alert → ℕ
-scopeOf s a = valued s scopes (scopeLeaf a)
+scopeOf s a = placeAmong s scopes (scopeLeaf a)
 
 -- msgType; Unknown for one unknown to CAP 1.2
 unfoldable pub typed : List ℕ → Leaf → MsgType
@@ -129,5 +129,5 @@ numberWith s field status scope msgType references =
     8)
     7
 
-abbrev pub numberOf : List ℕ → Alert → ℕ
-numberOf s a = numberWith s (fieldOf s a) (statusOf s a) (scopeOf s a) (msgTypeOf s a) (referencesLeaf a)
+abbrev pub messageNumber : List ℕ → Alert → ℕ
+messageNumber s a = numberWith s (fieldOf s a) (statusOf s a) (scopeOf s a) (msgTypeOf s a) (referencesLeaf a)

@@ -18,8 +18,8 @@ ghost use Rattle.faults.specs.WorkingField.{lowest};
 ghost use Rattle.markup.specs.Tree.{elemAt};
 ghost use Rattle.markup.specs.Document.{rooted, docAt};
 ghost use Rattle.message.specs.Root.{colonAt, rootWith};
-ghost use Rattle.message.specs.WorkingJudged.{onlyOf, identified, timed, valued, typed, isUnknown, infoOk, faultsWith, referenced, numberWith};
-ghost use Rattle.message.specs.WorkingMessage.{refusedAs, judged, passed, rootContext, ofRoot, messageOf};
+ghost use Rattle.message.specs.WorkingJudged.{onlyOf, identified, timed, placeAmong, typed, isUnknown, infoOk, faultsWith, referenced, numberWith};
+ghost use Rattle.message.specs.WorkingMessage.{refusedAs, judged, judgedRoot, rootContext, ofRoot, messageSays};
 
 // What a message says: its number and field; its msgType; the instant of sent; and what is read in its alert. After 4, 5 and 6 nothing is read.
 pub struct Message {
@@ -76,7 +76,7 @@ fn time_of(s: &[u8], l: Leaf) -> Time
 }
 
 fn status_of(s: &[u8], l: Leaf) -> u32
-    ensures { λ r. ⌜ r ≡ valued (now (s .entry)) statuses l ⌝ }
+    ensures { λ r. ⌜ r ≡ placeAmong (now (s .entry)) statuses l ⌝ }
 {
     if !is_only(l) {
         return 0;
@@ -94,7 +94,7 @@ fn msg_type_of(s: &[u8], l: Leaf) -> MsgType
 }
 
 fn scope_of(s: &[u8], l: Leaf) -> u32
-    ensures { λ r. ⌜ r ≡ valued (now (s .entry)) scopes l ⌝ }
+    ensures { λ r. ⌜ r ≡ placeAmong (now (s .entry)) scopes l ⌝ }
 {
     if !is_only(l) {
         return 0;
@@ -284,7 +284,7 @@ fn is_root(s: &[u8], p: &[u8], lead: &[u8], rest: &[u8], from: usize, to: usize)
 
 // The pass over the root at i under the prefix p, which is an accepted root or not, and over what follows it.
 fn pass(s: &[u8], p: &[u8], i: usize, ok: bool) -> Message
-    ensures { λ r. ⌜ r ≡ passed (now (s .entry)) (now (p .entry)) ok (rooted (now (s .entry)) (elemAt (now (s .entry)) 12 i)) ⌝ }
+    ensures { λ r. ⌜ r ≡ judgedRoot (now (s .entry)) (now (p .entry)) ok (rooted (now (s .entry)) (elemAt (now (s .entry)) 12 i)) ⌝ }
 {
     let n = s.len();
     let g = gather::element(s, p, i, 12, root_context(ok), reads::new_state(n));
@@ -368,7 +368,7 @@ fn read_forward(s: &[u8]) -> Message
 
 // Reads and judges a message.
 pub fn read(s: &[u8]) -> Message
-    ensures { λ r. ⌜ r ≡ messageOf (now (s .entry)) ⌝ }
+    ensures { λ r. ⌜ r ≡ messageSays (now (s .entry)) ⌝ }
 {
     let n = s.len();
     if n < 1 {

@@ -27,29 +27,29 @@ use Rattle.board.specs.declared.Added.{Added}
 use Rattle.board.specs.WorkingCalls as board
 use Rattle.board.proofs.Answers.{offer-bad}
 use Rattle.offers.specs.WorkingRecords.{alertBy, recordsOf}
-use Rattle.offers.specs.Offer.{Offering}
-use Rattle.offers.specs.WorkingOffer.{refused, given, offerOf}
+use Rattle.offers.specs.Offer.{MessageOffering}
+use Rattle.offers.specs.WorkingOffer.{offerRefusedBy, offerGiven, messageOffer}
 use Rattle.offers.specs.declared.Offered.{Offered}
 use Rattle.offers.proofs.Taken.{records-ok, records-few}
 use Rattle.offers.proofs.Putting.{Put}
 
 module _ (s message : List ℕ) where
-  pub offer-board : boardOk s ≡ false → offerOf s message ≡ refused 1 0 s
-  unfolding offerOf
+  pub offer-board : boardOk s ≡ false → messageOffer s message ≡ offerRefusedBy 1 0 s
+  unfolding messageOffer
   offer-board e = rw e
 
-  pub offer-message : boardOk s ≡ true → (judgedOf message .number ≡ 0 → ⊥) → offerOf s message ≡ refused (judgedOf message .number) (judgedOf message .field) s
-  unfolding offerOf
+  pub offer-message : boardOk s ≡ true → (judgedOf message .number ≡ 0 → ⊥) → messageOffer s message ≡ offerRefusedBy (judgedOf message .number) (judgedOf message .field) s
+  unfolding messageOffer
   offer-message e n = let q = ne-eqb (judgedOf message .number) 0 n in rw (e, q)
 
   -- an offer of the records asks 1 itself
-  pub offer-zero : judgedOf message .number ≡ 0 → offerOf s message ≡ given (board.offerOf s (recordsOf message))
-  unfolding offerOf
+  pub offer-zero : judgedOf message .number ≡ 0 → messageOffer s message ≡ offerGiven (board.offerOf s (recordsOf message))
+  unfolding messageOffer
   offer-zero z = go (boardOk s) refl
     where
-      go : (b : Bool) → boardOk s ≡ b → pick b (pick (eqb (judgedOf message .number) 0) (given (board.offerOf s (recordsOf message))) (refused (judgedOf message .number) (judgedOf message .field) s)) (refused 1 0 s) ≡ given (board.offerOf s (recordsOf message))
+      go : (b : Bool) → boardOk s ≡ b → pick b (pick (eqb (judgedOf message .number) 0) (offerGiven (board.offerOf s (recordsOf message))) (offerRefusedBy (judgedOf message .number) (judgedOf message .field) s)) (offerRefusedBy 1 0 s) ≡ offerGiven (board.offerOf s (recordsOf message))
       go true e = let q = eq-eqb (judgedOf message .number) 0 z in rw q
-      go false e = sym (ap given (offer-bad s (recordsOf message) e))
+      go false e = sym (ap offerGiven (offer-bad s (recordsOf message) e))
 
 -- whatever a message is answered, its number and field are small
 pub judged-small : (s : List ℕ) → (judgedOf s .number ≤ 17) × (judgedOf s .field ≤ 7)
@@ -86,10 +86,10 @@ module _ (message : List ℕ) (j : Judged) (e : j ≡ judgedOf message) (z : j .
     batch-long = back .0
 
     pub offer-given : (s y : List ℕ) (a : Added) → a ≡ board.offerOf s (recs n x) .answer → y ≡ board.offerOf s (recs n x) .bytes →
-        (_≡_ {A = Offered} (record { number = a .number; field = 0; added = a .added }) (offerOf s message .answer)) × (y ≡ offerOf s message .bytes)
+        (_≡_ {A = Offered} (record { number = a .number; field = 0; added = a .added }) (messageOffer s message .answer)) × (y ≡ messageOffer s message .bytes)
     offer-given s y a f g =
         let q = ap (board.offerOf s) (back .1) in
         let o = sym (offer-zero s message zero) in (
-          ap (λ (b : Added). record { number = b .number; field = 0; added = b .added }) (f ∙ ap (λ (r : board.Offering). r .answer) q) ∙ ap (λ (r : Offering). r .answer) o,
-          g ∙ ap (λ (r : board.Offering). r .bytes) q ∙ ap (λ (r : Offering). r .bytes) o,
+          ap (λ (b : Added). record { number = b .number; field = 0; added = b .added }) (f ∙ ap (λ (r : board.Offering). r .answer) q) ∙ ap (λ (r : MessageOffering). r .answer) o,
+          g ∙ ap (λ (r : board.Offering). r .bytes) q ∙ ap (λ (r : MessageOffering). r .bytes) o,
         )

@@ -35,7 +35,7 @@ use Rattle.records.proofs.Making.{laid}
 use Rattle.records.proofs.Records.{record-long}
 use Rattle.ledger.specs.WorkingBoard.{records}
 use Rattle.slots.specs.WorkingSlots.{flat}
-use Rattle.offers.specs.WorkingRecords.{ownReferences, ownIn, headerIn, namedBy, alertBy}
+use Rattle.offers.specs.WorkingRecords.{ownReferences, ownIn, zeroFilledHeader, namedBy, alertBy}
 use Rattle.offers.proofs.Taken.{named-good, references-are, map-long, Ready}
 
 -- ---- the notice
@@ -194,9 +194,9 @@ module _ (s : List ℕ) (j : Judged) (d : List ℕ) where
   unfolding alertBy
   put-none q = (rw q, rw q)
 
-  pub put-one : (r x : List ℕ) → j .quiet ≡ false → r ≡ notice (ownIn s (j .message)) (headerIn j) → x ≡ sets d 0 r → (1 ≡ length (alertBy s j .carries)) × (x ≡ sets d 0 (flat notices))
-  unfolding alertBy headerIn
-  put-one r x q e p = (rw q, rw q (p ∙ ap (sets d 0) (e ∙ sym (append-nil (notice (ownIn s (j .message)) (headerIn j))))))
+  pub put-one : (r x : List ℕ) → j .quiet ≡ false → r ≡ notice (ownIn s (j .message)) (zeroFilledHeader j) → x ≡ sets d 0 r → (1 ≡ length (alertBy s j .carries)) × (x ≡ sets d 0 (flat notices))
+  unfolding alertBy zeroFilledHeader
+  put-one r x q e p = (rw q, rw q (p ∙ ap (sets d 0) (e ∙ sym (append-nil (notice (ownIn s (j .message)) (zeroFilledHeader j))))))
 
   records-are : records (alertBy s j) ≡ notices ++ map withdrawal (alertBy s j .names)
   unfolding alertBy
@@ -210,9 +210,9 @@ module _ (s : List ℕ) (j : Judged) (d : List ℕ) where
   unfolding alertBy
   notices-long r = go (j .quiet) refl
     where
-      go : (q : Bool) → j .quiet ≡ q → length (flat (map (notice (ownIn s (j .message))) (pick q [] (headerIn j ∷ [])))) ≡ length (pick q [] (headerIn j ∷ [])) * 384
+      go : (q : Bool) → j .quiet ≡ q → length (flat (map (notice (ownIn s (j .message))) (pick q [] (zeroFilledHeader j ∷ [])))) ≡ length (pick q [] (zeroFilledHeader j ∷ [])) * 384
       go true e = omega arith
-      go false e = ap length (append-nil (notice (ownIn s (j .message)) (headerIn j))) ∙ record-long (notice (ownIn s (j .message)) (headerIn j)) (r .notice e)
+      go false e = ap length (append-nil (notice (ownIn s (j .message)) (zeroFilledHeader j))) ∙ record-long (notice (ownIn s (j .message)) (zeroFilledHeader j)) (r .notice e)
 
   module _ (n : ℕ) (x : List ℕ) (t : n ≡ length (alertBy s j .carries)) (p : x ≡ sets d 0 (flat notices)) where
     pub as-long : length x ≡ length d

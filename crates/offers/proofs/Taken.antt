@@ -29,14 +29,14 @@ use Rattle.fields.specs.WorkingFields.{groupOk, referencesOk}
 use Rattle.fields.specs.declared.MsgType.{MsgType}
 use Rattle.fields.proofs.Identities.{identity-short}
 use Rattle.fields.proofs.Groups.{groupTests}
-use Rattle.faults.specs.WorkingField.{onward, lowest}
+use Rattle.faults.specs.WorkingField.{oneOn, lowest}
 use Rattle.markup.specs.Tree.{one}
 use Rattle.reads.specs.declared.Alert.{Alert}
 use Rattle.reads.specs.declared.Leaf.{Leaf}
 use Rattle.gather.specs.WorkingRead.{alertOf}
 use Rattle.reads.specs.WorkingLeaves.{identifierLeaf, senderLeaf, sentLeaf, referencesLeaf}
-use Rattle.message.specs.WorkingJudged.{onlyOf, identified, timed, statusOf, msgTypeOf, scopeOf, referenced, isAckOrError, asksReferences, faultsWith, fieldOf, numberWith, numberOf}
-use Rattle.message.specs.WorkingMessage.{judged, messageOf}
+use Rattle.message.specs.WorkingJudged.{onlyOf, identified, timed, statusOf, msgTypeOf, scopeOf, referenced, isAckOrError, asksReferences, faultsWith, fieldOf, numberWith, messageNumber}
+use Rattle.message.specs.WorkingMessage.{judged, messageSays}
 use Rattle.message.specs.declared.Message.{Message}
 use Rattle.leaves.proofs.Fits.{message-holds, sent-in}
 use Rattle.judgement.specs.WorkingJudged.{bodyWith, judgedBy, judgedOf}
@@ -48,13 +48,13 @@ use Rattle.records.proofs.Stamps.{stamp-read}
 use Rattle.records.proofs.Records.{key-of-long, notice-ok, withdrawal-ok}
 use Rattle.ledger.specs.Sorted.{In}
 use Rattle.ledger.specs.WorkingBoard.{records, Shaped}
-use Rattle.offers.specs.WorkingRecords.{ownIdentifier, ownReferences, ownSender, ownIn, headerIn, namedBy, alertBy, recordsOf}
+use Rattle.offers.specs.WorkingRecords.{ownIdentifier, ownReferences, ownSender, ownIn, zeroFilledHeader, namedBy, alertBy, recordsOf}
 
 -- ---- its values
 
 -- whatever holds of what is judged with 0 holds of a message that answers 0
-module _ (s : List ℕ) (P : Message → Type 0) (holding : (a : Alert) → numberOf s a ≡ 0 → P (judged s a)) where
-  answering : messageOf s .number ≡ 0 → P (messageOf s)
+module _ (s : List ℕ) (P : Message → Type 0) (holding : (a : Alert) → messageNumber s a ≡ 0 → P (judged s a)) where
+  answering : messageSays s .number ≡ 0 → P (messageSays s)
   unfolding judged
   answering = message-holds s (λ (m : Message). m .number ≡ 0 → P m) (λ n k l z. absurd (omega arith)) (λ p t. holding (alertOf s p t))
 
@@ -65,7 +65,7 @@ no-faults (true ∷ bs) i h = absurd (omega arith)
 no-faults (false ∷ bs) zero h = refl
 no-faults (false ∷ bs) (suc i) h = no-faults bs i (go (lowest bs) h)
   where
-    go : (n : ℕ) → onward n ≡ 0 → n ≡ 0
+    go : (n : ℕ) → oneOn n ≡ 0 → n ≡ 0
     go zero e = refl
     go (suc n) e = absurd (omega arith)
 
@@ -85,7 +85,7 @@ pub record Sound (s : List ℕ) (m : Message) : Type 0 where
   pub sender : identityOk (ownSender s m) ≡ true
   pub references : asksReferences (m .«msg_type») ≡ true → referencesOk (ownReferences s m) ≡ true
 
-judged-sound : (s : List ℕ) (a : Alert) → numberOf s a ≡ 0 → Sound s (judged s a)
+judged-sound : (s : List ℕ) (a : Alert) → messageNumber s a ≡ 0 → Sound s (judged s a)
 unfolding judged identified referenced
 judged-sound s a h =
     let z = number-zero s (fieldOf s a) (statusOf s a) (scopeOf s a) (msgTypeOf s a) (referencesLeaf a) h in
@@ -102,15 +102,15 @@ judged-sound s a h =
 -- ---- a message that is judged and answers 0
 
 module _ (s : List ℕ) (zero : judgedOf s .number ≡ 0) where
-  pub message-is : judgedOf s .message ≡ messageOf s
-  message-is = message-kept s (messageOf s)
+  pub message-is : judgedOf s .message ≡ messageSays s
+  message-is = message-kept s (messageSays s)
 
-  message-zero : messageOf s .number ≡ 0
+  message-zero : messageSays s .number ≡ 0
   unfolding judgedBy
-  message-zero = go (eqb (messageOf s .number) 0) refl
+  message-zero = go (eqb (messageSays s .number) 0) refl
     where
-      go : (b : Bool) → eqb (messageOf s .number) 0 ≡ b → messageOf s .number ≡ 0
-      go true e = eqb-true (messageOf s .number) 0 e
+      go : (b : Bool) → eqb (messageSays s .number) 0 ≡ b → messageSays s .number ≡ 0
+      go true e = eqb-true (messageSays s .number) 0 e
       go false e = rw e at zero
 
   pub sound : Sound s (judgedOf s .message)
@@ -130,17 +130,17 @@ module _ (s : List ℕ) (zero : judgedOf s .number ≡ 0) where
     stamp : part (timesPart (bodyBytes (judgedOf s .body))) 6 7 ≡ stamped (judgedOf s .message .sent)
     unfolding bodyWith
     stamp =
-        let e = alert-body s (messageOf s) (alerting s (messageOf s) zero loud) in
+        let e = alert-body s (messageSays s) (alerting s (messageSays s) zero loud) in
         stamp-read (bodyBytes (judgedOf s .body)) form
         ∙ ap (λ (x : Body). jjjhhmm (x .day) (x .hour) (x .minute)) (body-back (judgedOf s .body) (body-ok s zero loud) ∙ e)
         ∙ ap (λ (m : Message). stamped (m .sent)) (sym message-is)
 
-    notice-good : recordOk (notice (ownIn s (judgedOf s .message)) (headerIn (judgedOf s))) ≡ true
-    unfolding ownIn headerIn
+    notice-good : recordOk (notice (ownIn s (judgedOf s .message)) (zeroFilledHeader (judgedOf s))) ≡ true
+    unfolding ownIn zeroFilledHeader
     notice-good = notice-ok _ _ _ sent-low (sound .sender) (sound .identifier) (bodyBytes (judgedOf s .body)) form stamp
 
-    pub header-long : length (headerIn (judgedOf s)) ≡ 243
-    unfolding headerIn
+    pub header-long : length (zeroFilledHeader (judgedOf s)) ≡ 243
+    unfolding zeroFilledHeader
     header-long = pad-long 243 (bodyBytes (judgedOf s .body)) (body-long _ form .1)
 
 -- ---- its records
@@ -162,7 +162,7 @@ unfolding referencesOk
 references-are v h = let t = each-of _ h in (between-high 1 16 (length (words v)) (t .0), t .1 .0)
 
 module _ (s : List ℕ) (zero : judgedOf s .number ≡ 0) where
-  notices-good : (q : Bool) → judgedOf s .quiet ≡ q → every recordOk (map (notice (ownIn s (judgedOf s .message))) (pick q [] (headerIn (judgedOf s) ∷ []))) ≡ true
+  notices-good : (q : Bool) → judgedOf s .quiet ≡ q → every recordOk (map (notice (ownIn s (judgedOf s .message))) (pick q [] (zeroFilledHeader (judgedOf s) ∷ []))) ≡ true
   notices-good true e = every-none recordOk
   notices-good false e = every-step recordOk _ [] (notice-good s zero e) ∙ every-none recordOk
 
@@ -178,7 +178,7 @@ module _ (s : List ℕ) (zero : judgedOf s .number ≡ 0) where
   unfolding alertBy
   carries-few = go (judgedOf s .quiet)
     where
-      go : (q : Bool) → length (pick q [] (headerIn (judgedOf s) ∷ [])) ≤ 1
+      go : (q : Bool) → length (pick q [] (zeroFilledHeader (judgedOf s) ∷ [])) ≤ 1
       go true = omega arith
       go false = omega arith
 
@@ -202,7 +202,7 @@ module _ (s : List ℕ) (zero : judgedOf s .number ≡ 0) where
   unfolding alertBy
   shaped = record { own-long = own-long s zero; carried-long = go (judgedOf s .quiet) refl }
     where
-      go : (q : Bool) → judgedOf s .quiet ≡ q → (h : List ℕ) → In h (pick q [] (headerIn (judgedOf s) ∷ [])) → length h ≡ 243
+      go : (q : Bool) → judgedOf s .quiet ≡ q → (h : List ℕ) → In h (pick q [] (zeroFilledHeader (judgedOf s) ∷ [])) → length h ≡ 243
       go true e h i = absurd i
       go false e h i = ⊎-elim (λ p. ap length p ∙ header-long s zero e) absurd i
 
@@ -230,7 +230,7 @@ pub record Ready (s : List ℕ) (j : Judged) : Type 0 where
   pub references : asksReferences (j .message .«msg_type») ≡ true → referencesOk (ownReferences s (j .message)) ≡ true
   pub places : j .quiet ≡ false → j .body .count ≤ 31
   pub header : j .quiet ≡ false → length (bodyBytes (j .body)) ≤ 243
-  pub notice : j .quiet ≡ false → recordOk (notice (ownIn s (j .message)) (headerIn j)) ≡ true
+  pub notice : j .quiet ≡ false → recordOk (notice (ownIn s (j .message)) (zeroFilledHeader j)) ≡ true
   pub one : length (alertBy s j .carries) ≤ 1
   pub few : length (records (alertBy s j)) ≤ 17
 

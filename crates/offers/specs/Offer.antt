@@ -1,9 +1,9 @@
--- An offer of a message to a board: 1 the board, 4 to 14 the message, 15 too few empty records.
+-- An offer of a message to a board: what it answers, and the board that it leaves.
 use Prim.Native.Nat.{ℕ}
 use mathlib.Core.List.{List}
 use Rattle.offers.specs.declared.Offered.{Offered}
 
 -- what an offer answers, and the board's bytes after it
-pub record Offering : Type 0 where
+pub record MessageOffering : Type 0 where
   pub answer : Offered
   pub bytes : List ℕ

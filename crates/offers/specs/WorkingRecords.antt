@@ -29,8 +29,8 @@ unfoldable pub ownIn : List ℕ → Message → List ℕ
 ownIn s m = keyOf (m .sent) (ownSender s m) (ownIdentifier s m)
 
 -- the header through the dash after JJJHHMM, zero-filled
-unfoldable pub headerIn : Judged → List ℕ
-headerIn j = pad 243 (bodyBytes (j .body))
+unfoldable pub zeroFilledHeader : Judged → List ℕ
+zeroFilledHeader j = pad 243 (bodyBytes (j .body))
 
 -- the sent, sender and identifier of a group `sender,identifier,sent`
 unfoldable pub namedBy : List ℕ → List ℕ
@@ -40,7 +40,7 @@ namedBy w = keyOf (instantIn (timeOf (sentOf w))) (senderOf w) (identifierOf w)
 unfoldable pub alertBy : List ℕ → Judged → Alert
 alertBy s j = record {
   own = ownIn s (j .message);
-  carries = pick (j .quiet) [] (headerIn j ∷ []);
+  carries = pick (j .quiet) [] (zeroFilledHeader j ∷ []);
   names = pick (asksReferences (j .message .«msg_type»)) (map namedBy (words (ownReferences s (j .message)))) [];
 }
 

@@ -18,8 +18,8 @@ ghost use Rattle.judgement.specs.WorkingJudged.{judgedOf};
 ghost use Rattle.records.specs.Record.{notice, withdrawal};
 ghost use Rattle.ledger.specs.WorkingBoard.{records};
 ghost use Rattle.slots.specs.WorkingSlots.{flat};
-ghost use Rattle.offers.specs.WorkingRecords.{ownIn, headerIn, namedBy, alertBy};
-ghost use Rattle.offers.specs.WorkingOffer.{offerOf};
+ghost use Rattle.offers.specs.WorkingRecords.{ownIn, zeroFilledHeader, namedBy, alertBy};
+ghost use Rattle.offers.specs.WorkingOffer.{messageOffer};
 
 // What an offer answers: the number; the field beside 7; and how many records were added.
 pub struct Offered {
@@ -81,7 +81,7 @@ fn put_withdrawals(s: &[u8], at: usize, batch: &mut [u8], n: usize) -> usize
 // The notice of a message that is not quiet.
 fn notice_by(s: &[u8], j: Judged) -> Record
     requires { ⌜ (j ≡ judgedOf (now s)) × (j .number ≡ 0) × (j .quiet ≡ false) ⌝ }
-    ensures { λ r. ⌜ r .bytes ≡ notice (ownIn (now (s .entry)) (j .message)) (headerIn j) ⌝ }
+    ensures { λ r. ⌜ r .bytes ≡ notice (ownIn (now (s .entry)) (j .message)) (zeroFilledHeader j) ⌝ }
 {
     let m = j.message;
     let a = m.alert;
@@ -150,8 +150,8 @@ fn put_records(s: &[u8], j: Judged, batch: &mut [u8]) -> usize
 // Offers a message that answers 0.
 fn offer_records(s: &mut [u8], message: &[u8], j: Judged) -> Offered
     requires { ⌜ (j ≡ judgedOf (now message)) × (j .number ≡ 0) ⌝ }
-    ensures { λ r. ⌜ r ≡ offerOf (now (s .entry)) (now (message .entry)) .answer ⌝ }
-    ensures { λ _. ⌜ now (s .exit) ≡ offerOf (now (s .entry)) (now (message .entry)) .bytes ⌝ }
+    ensures { λ r. ⌜ r ≡ messageOffer (now (s .entry)) (now (message .entry)) .answer ⌝ }
+    ensures { λ _. ⌜ now (s .exit) ≡ messageOffer (now (s .entry)) (now (message .entry)) .bytes ⌝ }
     ensures { λ r. ⌜ (r .number ≤ 17) × (r .field ≤ 7) × (r .added ≤ 170) ⌝ }
 {
     let mut batch = [0u8; 17 * Record::SIZE];
@@ -166,8 +166,8 @@ fn offer_records(s: &mut [u8], message: &[u8], j: Judged) -> Offered
 
 // Adds the records of a message to the board s, all or none; the board's own number comes before the message's.
 pub fn offer(s: &mut [u8], message: &[u8]) -> Offered
-    ensures { λ r. ⌜ r ≡ offerOf (now (s .entry)) (now (message .entry)) .answer ⌝ }
-    ensures { λ _. ⌜ now (s .exit) ≡ offerOf (now (s .entry)) (now (message .entry)) .bytes ⌝ }
+    ensures { λ r. ⌜ r ≡ messageOffer (now (s .entry)) (now (message .entry)) .answer ⌝ }
+    ensures { λ _. ⌜ now (s .exit) ≡ messageOffer (now (s .entry)) (now (message .entry)) .bytes ⌝ }
     ensures { λ r. ⌜ (r .number ≤ 17) × (r .field ≤ 7) × (r .added ≤ 170) ⌝ }
 {
     let j = judgement::judge(message);

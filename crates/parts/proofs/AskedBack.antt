@@ -17,7 +17,7 @@ use Rattle.parts.proofs.Has.{has, station-long}
 use Rattle.parts.proofs.Padded.{padded-is}
 use Rattle.parts.specs.Parts.{padded}
 use Rattle.parts.specs.WorkingAsked.{sixesBytes, sixes, sixesTests, sixesOk, askedBody, askedStation, askedParts}
-use Rattle.parts.specs.Originator.{numberOf, numbered}
+use Rattle.parts.specs.Originator.{originatorNumber, numbered}
 use Rattle.parts.specs.Parts.{isLocation, bodyOk, stationOk, noStation}
 use Rattle.parts.specs.declared.Body.{Body}
 use Rattle.parts.specs.declared.Origin.the-variants.{Known}
@@ -25,7 +25,7 @@ use Rattle.parts.specs.declared.Originator.{Originator}
 use Rattle.parts.specs.declared.Originator.the-variants.{Pep, Eas, Wxr, Civ}
 use Rattle.parts.specs.declared.Parts.{Parts}
 
-pub numbered-back : (o : Originator) → numbered (numberOf o) ≡ Known o
+pub numbered-back : (o : Originator) → numbered (originatorNumber o) ≡ Known o
 unfolding numbered
 numbered-back Pep = refl
 numbered-back Eas = refl
@@ -53,7 +53,7 @@ sixes-back (v ∷ vs) s at e h =
 
 -- all parts that a header has can be asked
 pub asked-back : (p : Parts) → bodyOk (p .body) ≡ true → stationOk (p .station) ≡ true →
-    askedParts (numberOf (p .body .originator)) (p .body .event) (sixesBytes (take (p .body .count) (p .body .locations))) (p .body .period) (p .body .day) (p .body .hour) (p .body .minute) (p .station) ≡ p
+    askedParts (originatorNumber (p .body .originator)) (p .body .event) (sixesBytes (take (p .body .count) (p .body .locations))) (p .body .period) (p .body .day) (p .body .hour) (p .body .minute) (p .station) ≡ p
 unfolding askedParts askedStation sixesOk
 asked-back p ok st =
     let b = p .body in
@@ -67,7 +67,7 @@ asked-back p ok st =
     let fine = every-of (sixesTests ls) (le-leb (length ls) 186 (omega arith), (eq-eqb (length ls) (6 * (length ls / 6)) (omega arith), (sixes-digits vs, tt))) in
     let list : b .locations ≡ padded (sixes (length ls / 6) ls 0) =
     sym (ap (λ (n : ℕ). padded (sixes n ls 0)) (count ∙ sym many) ∙ ap padded (sixes-back vs ls 0 refl (h .six)) ∙ padded-is (b .locations) (b .count) (h .long) (h .few) (h .rest)) in
-    let body = asked-taken (numberOf (b .originator)) (b .event) ls (b .period) (b .day) (b .hour) (b .minute) (b .originator) (b .event) (b .locations) (numbered-back (b .originator)) (h .three) fine refl list in
-    let whole : _≡_ {A = Body} (askedBody (numberOf (b .originator)) (b .event) ls (b .period) (b .day) (b .hour) (b .minute)) b
+    let body = asked-taken (originatorNumber (b .originator)) (b .event) ls (b .period) (b .day) (b .hour) (b .minute) (b .originator) (b .event) (b .locations) (numbered-back (b .originator)) (h .three) fine refl list in
+    let whole : _≡_ {A = Body} (askedBody (originatorNumber (b .originator)) (b .event) ls (b .period) (b .day) (b .hour) (b .minute)) b
     = sym body ∙ (λ i. record { originator = b .originator; event = b .event; count = count i; locations = b .locations; period = b .period; day = b .day; hour = b .hour; minute = b .minute }) in
     λ i. record { body = whole i; station = picked (eqb (length (p .station)) 8) (p .station) noStation (eq-eqb (length (p .station)) 8 (station-long (p .station) st)) i }

@@ -38,11 +38,11 @@ known Unknown = Pep
 -- ---- by number
 
 -- 1 PEP, 2 EAS, 3 WXR, 4 CIV
-abbrev pub numberOf : Originator → ℕ
-numberOf Pep = 1
-numberOf Eas = 2
-numberOf Wxr = 3
-numberOf Civ = 4
+abbrev pub originatorNumber : Originator → ℕ
+originatorNumber Pep = 1
+originatorNumber Eas = 2
+originatorNumber Wxr = 3
+originatorNumber Civ = 4
 
 -- the originator of a number, if it has one
 unfoldable pub numbered : ℕ → Origin

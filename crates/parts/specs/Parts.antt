@@ -49,11 +49,11 @@ unfoldable pub bodyOk : Body → Bool
 bodyOk b = every holds (bodyTests b)
 
 -- LLLLLLLL: exactly 8 bytes, 32 to 126, not `-` or `+`
-unfoldable pub isStation : ℕ → Bool
-isStation b = every holds (between 32 126 b ∷ not (eqb b 45) ∷ not (eqb b 43) ∷ [])
+unfoldable pub isStationByte : ℕ → Bool
+isStationByte b = every holds (between 32 126 b ∷ not (eqb b 45) ∷ not (eqb b 43) ∷ [])
 
 abbrev pub stationTests : List ℕ → List Bool
-stationTests t = eqb (length t) 8 ∷ every isStation t ∷ []
+stationTests t = eqb (length t) 8 ∷ every isStationByte t ∷ []
 
 unfoldable pub stationOk : List ℕ → Bool
 stationOk t = every holds (stationTests t)

@@ -4,8 +4,8 @@ ghost use mathlib.Core.Path.{_≡_};
 ghost use Prim.Native.Nat.{_+_, _≤_};
 ghost use lib.ListN.{length, take, drop};
 ghost use Rattle.octets.specs.Bytes.{part, every};
-ghost use Rattle.parts.specs.Originator.{originatorOf, numberOf, numbered};
-ghost use Rattle.parts.specs.Parts.{eventOk, isLocation, isZero, locationsOk, isPeriod, timesOk, bodyOk, isStation, stationOk, noBody};
+ghost use Rattle.parts.specs.Originator.{originatorOf, originatorNumber, numbered};
+ghost use Rattle.parts.specs.Parts.{eventOk, isLocation, isZero, locationsOk, isPeriod, timesOk, bodyOk, isStationByte, stationOk, noBody};
 ghost use Rattle.parts.specs.WorkingAsked.{sixesRead, askedBody, askedStation, askedParts};
 
 pub enum Originator {
@@ -66,7 +66,7 @@ pub fn originator_of(s: &[u8], at: usize) -> Origin
 }
 
 pub fn originator_number(o: Originator) -> u32
-    ensures { λ r. ⌜ r ≡ numberOf o ⌝ }
+    ensures { λ r. ⌜ r ≡ originatorNumber o ⌝ }
 {
     match o {
         Originator::Pep => 1,
@@ -113,7 +113,7 @@ pub fn event_ok(t: &[u8]) -> bool
 }
 
 pub fn is_station(b: u8) -> bool
-    ensures { λ r. ⌜ r ≡ isStation b ⌝ }
+    ensures { λ r. ⌜ r ≡ isStationByte b ⌝ }
 {
     if !octets::is_between(32, 126, b) {
         return false;

@@ -11,12 +11,12 @@ use Rattle.pieces.specs.declared.End.{End}
 use Rattle.pieces.specs.declared.End.the-variants.{At, No}
 use Rattle.pieces.proofs.Goes.{EndGoes}
 use Rattle.markup.specs.Tree.{One, one, none, elemAt}
-use Rattle.markup.specs.Document.{declarationAt, miscAt, led, leadAt, rooted, rootAt, docAt}
+use Rattle.markup.specs.Document.{declarationAt, miscAt, led, beforeRoot, rooted, rootAt, docAt}
 use Rattle.markup.proofs.Goes.{OneGoes, elem-goes, decl-goes, misc-goes}
 use Rattle.reader.specs.WorkingPosition.{reached}
 
-pub lead-forward : (s : List ℕ) (i : ℕ) → i ≤ length s → (i ≤ reached s (leadAt s i)) × (reached s (leadAt s i) ≤ length s)
-unfolding leadAt led reached
+pub lead-forward : (s : List ℕ) (i : ℕ) → i ≤ length s → (i ≤ reached s (beforeRoot s i)) × (reached s (beforeRoot s i) ≤ length s)
+unfolding beforeRoot led reached
 lead-forward s i l = behind (declarationAt s i) (decl-goes s i l)
   where
     stands : (a : ℕ) → i ≤ a → (m : End) → EndGoes s a m → (i ≤ reached s m) × (reached s m ≤ length s)
@@ -39,9 +39,9 @@ pub root-past : (s : List ℕ) (i : ℕ) → length s ≤ i → rooted s (elemAt
 unfolding rooted
 root-past s i h = rw (elem-past s 12 i h)
 
-pub doc-reached : (s : List ℕ) → rooted s (elemAt s 12 (reached s (leadAt s 0))) ≡ docAt s
+pub doc-reached : (s : List ℕ) → rooted s (elemAt s 12 (reached s (beforeRoot s 0))) ≡ docAt s
 unfolding reached docAt rootAt
-doc-reached s = go (leadAt s 0)
+doc-reached s = go (beforeRoot s 0)
   where
     go : (x : End) → rooted s (elemAt s 12 (reached s x)) ≡ rootAt s x
     go (At i) = refl

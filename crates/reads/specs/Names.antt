@@ -21,12 +21,12 @@ abbrev pub nameOf : List ℕ → List ℕ → ℕ → ℕ → List ℕ
 nameOf s p i a = part s (localAt s p i a) (a - localAt s p i a)
 
 -- an element that is read: its name, and the context inside it
-pub record Row : Type 0 where
+pub record ReadElement : Type 0 where
   pub name : String
   pub inside : Context
 
 -- every other element is skipped whole
-unfoldable pub among : List Row → List ℕ → Context
+unfoldable pub among : List ReadElement → List ℕ → Context
 among [] w = Skipped
 among (r ∷ rs) w = pick (same w (bytes (r .name))) (r .inside) (among rs w)
 
@@ -37,7 +37,7 @@ infoInside First = Info
 infoInside Selected = Later
 
 -- read in `alert`: 1 identifier, 2 sender, 3 sent, 4 status, 5 msgType, 6 scope, references, info
-abbrev pub inAlert : Kept → List Row
+abbrev pub inAlert : Kept → List ReadElement
 inAlert kept =
     record { name = "identifier"; inside = AlertLeaf 0 }
     ∷ record { name = "sender"; inside = AlertLeaf 1 }
@@ -50,7 +50,7 @@ inAlert kept =
     ∷ []
 
 -- read there: language, eventCode, expires, senderName, description, instruction, parameter, resource, area
-abbrev pub inInfo : List Row
+abbrev pub inInfo : List ReadElement
 inInfo =
     record { name = "language"; inside = InfoLeaf 0 }
     ∷ record { name = "eventCode"; inside = EventCode }
@@ -63,18 +63,18 @@ inInfo =
     ∷ record { name = "area"; inside = Area }
     ∷ []
 
-abbrev pub inLater : List Row
+abbrev pub inLater : List ReadElement
 inLater = record { name = "language"; inside = InfoLeaf 0 } ∷ []
 
-abbrev pub inPair : List Row
+abbrev pub inPair : List ReadElement
 inPair = record { name = "valueName"; inside = PairLeaf 0 } ∷ record { name = "value"; inside = PairLeaf 1 } ∷ []
 
 -- resource (mimeType, uri)
-abbrev pub inResource : List Row
+abbrev pub inResource : List ReadElement
 inResource = record { name = "mimeType"; inside = PairLeaf 0 } ∷ record { name = "uri"; inside = PairLeaf 1 } ∷ []
 
 -- area (geocode)
-abbrev pub inArea : List Row
+abbrev pub inArea : List ReadElement
 inArea = record { name = "geocode"; inside = Geocode } ∷ []
 
 abbrev pub alertContext : Kept → List ℕ → Context

@@ -12,8 +12,8 @@ use Rattle.reads.specs.declared.Kept.the-variants.{Nothing}
 use Rattle.reads.specs.declared.State.{State}
 
 -- a leaf that is absent from a message of n bytes: its value, at the message's end, is empty
-abbrev pub blank : ℕ → Leaf
-blank n = record { count = 0; at = n; holds = false }
+abbrev pub noLeaf : ℕ → Leaf
+noLeaf n = record { count = 0; at = n; holds = false }
 
 -- one of them holds an element
 abbrev pub marked : Leaf → Leaf
@@ -34,62 +34,62 @@ pairOk name value = every holds (not (eqb (name .count) 0) ∷ not (eqb (value .
 -- nothing of an info
 abbrev pub noInfo : ℕ → Info
 noInfo n = record {
-  leaf = blank n ∷ blank n ∷ blank n ∷ blank n ∷ blank n ∷ [];
-  events = record { same = blank n; fault = false };
-  parameters = record { originator = blank n; text = blank n; carry = blank n; fault = false };
+  leaf = noLeaf n ∷ noLeaf n ∷ noLeaf n ∷ noLeaf n ∷ noLeaf n ∷ [];
+  events = record { same = noLeaf n; fault = false };
+  parameters = record { originator = noLeaf n; text = noLeaf n; carry = noLeaf n; fault = false };
   locations = record { count = 0; list = replicate 31 0; bad = false; fault = false };
   audio = record { number = 0; uri = n; fault = false };
 }
 
 -- nothing of a message of n bytes
-abbrev pub fresh : ℕ → State
-fresh n = record {
+abbrev pub nothingRead : ℕ → State
+nothingRead n = record {
   alert = record {
-    leaf = blank n ∷ blank n ∷ blank n ∷ blank n ∷ blank n ∷ blank n ∷ blank n ∷ [];
+    leaf = noLeaf n ∷ noLeaf n ∷ noLeaf n ∷ noLeaf n ∷ noLeaf n ∷ noLeaf n ∷ noLeaf n ∷ [];
     kept = Nothing;
     info = noInfo n;
     fault = false;
   };
   info = noInfo n;
-  pair = blank n ∷ blank n ∷ [];
+  pair = noLeaf n ∷ noLeaf n ∷ [];
 }
 
 -- ---- the leaves of an alert by name
 
 abbrev pub identifierLeaf : Alert → Leaf
-identifierLeaf a = getD (a .leaf) 0 (blank 0)
+identifierLeaf a = getD (a .leaf) 0 (noLeaf 0)
 
 abbrev pub senderLeaf : Alert → Leaf
-senderLeaf a = getD (a .leaf) 1 (blank 0)
+senderLeaf a = getD (a .leaf) 1 (noLeaf 0)
 
 abbrev pub sentLeaf : Alert → Leaf
-sentLeaf a = getD (a .leaf) 2 (blank 0)
+sentLeaf a = getD (a .leaf) 2 (noLeaf 0)
 
 abbrev pub statusLeaf : Alert → Leaf
-statusLeaf a = getD (a .leaf) 3 (blank 0)
+statusLeaf a = getD (a .leaf) 3 (noLeaf 0)
 
 abbrev pub msgTypeLeaf : Alert → Leaf
-msgTypeLeaf a = getD (a .leaf) 4 (blank 0)
+msgTypeLeaf a = getD (a .leaf) 4 (noLeaf 0)
 
 abbrev pub scopeLeaf : Alert → Leaf
-scopeLeaf a = getD (a .leaf) 5 (blank 0)
+scopeLeaf a = getD (a .leaf) 5 (noLeaf 0)
 
 abbrev pub referencesLeaf : Alert → Leaf
-referencesLeaf a = getD (a .leaf) 6 (blank 0)
+referencesLeaf a = getD (a .leaf) 6 (noLeaf 0)
 
 -- ---- the leaves of an info by name
 
 abbrev pub languageLeaf : Info → Leaf
-languageLeaf i = getD (i .leaf) 0 (blank 0)
+languageLeaf i = getD (i .leaf) 0 (noLeaf 0)
 
 abbrev pub expiresLeaf : Info → Leaf
-expiresLeaf i = getD (i .leaf) 1 (blank 0)
+expiresLeaf i = getD (i .leaf) 1 (noLeaf 0)
 
 abbrev pub senderNameLeaf : Info → Leaf
-senderNameLeaf i = getD (i .leaf) 2 (blank 0)
+senderNameLeaf i = getD (i .leaf) 2 (noLeaf 0)
 
 abbrev pub descriptionLeaf : Info → Leaf
-descriptionLeaf i = getD (i .leaf) 3 (blank 0)
+descriptionLeaf i = getD (i .leaf) 3 (noLeaf 0)
 
 abbrev pub instructionLeaf : Info → Leaf
-instructionLeaf i = getD (i .leaf) 4 (blank 0)
+instructionLeaf i = getD (i .leaf) 4 (noLeaf 0)

@@ -46,13 +46,13 @@ parameterStep s e name value =
     (record { originator = e .originator; text = e .text; carry = e .carry; fault = true })
 
 -- the first 31 in message order are placed, repeats kept
-unfoldable pub placed : Locations → ℕ → Locations
-placed e v =
+unfoldable pub withLocation : Locations → ℕ → Locations
+withLocation e v =
     pick (leb 31 (e .count)) e
     (record { count = e .count + 1; list = set (e .list) (e .count) v; bad = e .bad; fault = e .fault })
 
 abbrev pub locationOf : Locations → Num → Locations
-locationOf e (Value v) = placed e v
+locationOf e (Value v) = withLocation e v
 locationOf e Bad = record { count = e .count; list = e .list; bad = true; fault = e .fault }
 
 -- a geocode: every one named SAME must be six digits

@@ -4,9 +4,9 @@ ghost use mathlib.Core.Path.{_≡_};
 ghost use mathlib.Core.Bool.{_||_};
 ghost use Prim.Native.Nat.{_≤_};
 ghost use lib.ListN.{length};
-ghost use Rattle.reads.specs.WorkingLeaves.{blank, marked, found, soundOf, pairOk, noInfo, fresh};
+ghost use Rattle.reads.specs.WorkingLeaves.{noLeaf, marked, found, soundOf, pairOk, noInfo, nothingRead};
 ghost use Rattle.reads.specs.Names.{localAt, alertContext, infoContext, laterContext, pairContext, resourceContext, areaContext, contextOf};
-ghost use Rattle.reads.specs.WorkingSteps.{eventStep, parameterStep, placed, locationStep, audioOf, audioStep, english, isNothing, infoStep, laterStep};
+ghost use Rattle.reads.specs.WorkingSteps.{eventStep, parameterStep, withLocation, locationStep, audioOf, audioStep, english, isNothing, infoStep, laterStep};
 
 // A leaf: where the value of the first begins, how often it stands (0, 1, and 2 for more), and whether one of them holds an element.
 pub struct Leaf {
@@ -121,7 +121,7 @@ pub enum Context {
 // ---- nothing found yet, in a message of n bytes: what is absent stands at its end
 
 pub fn no_leaf(n: usize) -> Leaf
-    ensures { λ r. ⌜ r ≡ blank n ⌝ }
+    ensures { λ r. ⌜ r ≡ noLeaf n ⌝ }
 {
     Leaf {
         count: 0,
@@ -161,7 +161,7 @@ pub fn no_info(n: usize) -> Info
 }
 
 pub fn new_state(n: usize) -> State
-    ensures { λ r. ⌜ r ≡ fresh n ⌝ }
+    ensures { λ r. ⌜ r ≡ nothingRead n ⌝ }
 {
     let l = no_leaf(n);
     let i = no_info(n);
@@ -420,7 +420,7 @@ pub fn parameter_step(s: &[u8], e: Parameters, name: Leaf, value: Leaf) -> Param
 
 // One location more, of six digits, behind those that are placed.
 pub fn place_location(e: Locations, v: u32) -> Locations
-    ensures { λ r. ⌜ r ≡ placed e v ⌝ }
+    ensures { λ r. ⌜ r ≡ withLocation e v ⌝ }
 {
     let n = e.count;
     let mut list = e.list;

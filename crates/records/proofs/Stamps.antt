@@ -21,7 +21,7 @@ use Rattle.clock.specs.Stamp.{stampOf, stamped}
 use Rattle.clock.proofs.Stamps.{stamp-fits}
 use Rattle.parts.specs.declared.Body.{Body}
 use Rattle.parts.proofs.Has.{has}
-use Rattle.header.specs.Body.{timesBytes, periodOf, dayOf, hourOf, minuteOf, countOf, timesPart, bodyFormTests, bodyForm, bodyOf}
+use Rattle.header.specs.Body.{timesBytes, periodIn, dayIn, hourIn, minuteIn, locationCount, timesPart, bodyFormTests, bodyForm, bodyOf}
 use Rattle.header.proofs.Reading.{length-is}
 use Rattle.header.proofs.Times.{times-forth}
 use Rattle.header.proofs.ReadThenWrite.{body-ok}
@@ -35,8 +35,8 @@ unfolding bodyForm bodyOf
 stamp-read v h =
     let w = each-of (bodyFormTests v) h in
     let t = timesPart v in
-    let l = length-part v (12 + 7 * countOf v) 14 (omega (arith, length-is (length v) (w .0))) in
-    sym (ap (λ (x : List ℕ). part x 6 7) (times-forth t l (w .1 .1 .1 .0) (w .1 .1 .1 .1 .0))) ∙ written (periodOf t) (dayOf t) (hourOf t) (minuteOf t)
+    let l = length-part v (12 + 7 * locationCount v) 14 (omega (arith, length-is (length v) (w .0))) in
+    sym (ap (λ (x : List ℕ). part x 6 7) (times-forth t l (w .1 .1 .1 .0) (w .1 .1 .1 .1 .0))) ∙ written (periodIn t) (dayIn t) (hourIn t) (minuteIn t)
 
 -- day, hour and minute are those of sent
 abbrev pub on : Body → ℕ → List Bool

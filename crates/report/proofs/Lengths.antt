@@ -10,7 +10,7 @@ use Rattle.octets.proofs.Numbers.{length-digits}
 use Rattle.octets.specs.Digits.{digits}
 use Rattle.octets.specs.Text.{bytes}
 use Rattle.octets.proofs.Tests.{either-way}
-use Rattle.report.specs.Lines.{decimal, line, orNone, spaced, audioWords, numberLine, valueLine, audioLine, carryLine, alertLines, linesOf}
+use Rattle.report.specs.Lines.{decimal, line, orNone, kindThenUri, audioWords, numberLine, valueLine, audioLine, carryLine, alertLines, linesOf}
 
 abbrev pub AtMost : ℕ → List ℕ → Type 0
 AtMost n l = length l ≤ n
@@ -27,8 +27,8 @@ value-le : (name v : List ℕ) (n : ℕ) → 4 ≤ n → length v ≤ n → leng
 unfolding valueLine line orNone bytes
 value-le name v n k h = simp length-append (omega (arith, either-way (AtMost n) (eqb (length v) 0) (bytes "none") v (λ e. k) (λ e. h)))
 
-spaced-le : (kind uri : List ℕ) (n : ℕ) → length kind ≤ 6 → length uri ≤ n → length (spaced kind uri) ≤ n + 7
-unfolding spaced bytes
+spaced-le : (kind uri : List ℕ) (n : ℕ) → length kind ≤ 6 → length uri ≤ n → length (kindThenUri kind uri) ≤ n + 7
+unfolding kindThenUri bytes
 spaced-le kind uri n k h = simp length-append (omega arith)
 
 audio-words-le : (audio : ℕ) (uri : List ℕ) (n : ℕ) → length uri ≤ n → length (audioWords audio uri) ≤ n + 7

@@ -21,15 +21,15 @@ unfoldable pub orNone : List ℕ → List ℕ
 orNone v = pick (eqb (length v) 0) (bytes "none") v
 
 -- a kind of audio, a space, the uri
-unfoldable pub spaced : List ℕ → List ℕ → List ℕ
-spaced kind uri = kind ++ bytes " " ++ uri
+unfoldable pub kindThenUri : List ℕ → List ℕ → List ℕ
+kindThenUri kind uri = kind ++ bytes " " ++ uri
 
 -- `none`, or `mp3`, `wav`, `stream`, a space, the uri
 unfoldable pub audioWords : ℕ → List ℕ → List ℕ
 audioWords audio uri =
-    pick (eqb audio 1) (spaced (bytes "mp3") uri)
-    (pick (eqb audio 2) (spaced (bytes "wav") uri)
-    (pick (eqb audio 3) (spaced (bytes "stream") uri)
+    pick (eqb audio 1) (kindThenUri (bytes "mp3") uri)
+    (pick (eqb audio 2) (kindThenUri (bytes "wav") uri)
+    (pick (eqb audio 3) (kindThenUri (bytes "stream") uri)
     (bytes "none")))
 
 -- `number N field F`

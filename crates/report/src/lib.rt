@@ -3,7 +3,7 @@ ghost use mathlib.Core.Path.{_≡_};
 ghost use Prim.Native.Nat.{_+_, _≤_};
 ghost use lib.ListN.{length};
 ghost use lib.Seq.{sets};
-ghost use Rattle.report.specs.Lines.{decimal, orNone, spaced, audioWords, numberLine, valueLine, audioLine, carryLine, alertLines, linesOf};
+ghost use Rattle.report.specs.Lines.{decimal, orNone, kindThenUri, audioWords, numberLine, valueLine, audioLine, carryLine, alertLines, linesOf};
 ghost use Rattle.report.specs.Program.{programOf};
 
 // The room that all lines fit.
@@ -36,9 +36,9 @@ fn put_or_none(out: &mut [u8], at: usize, v: &[u8]) -> usize
 }
 
 fn put_spaced(out: &mut [u8], at: usize, kind: &[u8], uri: &[u8]) -> usize
-    requires { ⌜ at + length (spaced (now kind) (now uri)) ≤ length (now out) ⌝ }
-    ensures { λ r. ⌜ r ≡ at + length (spaced (now (kind .entry)) (now (uri .entry))) ⌝ }
-    ensures { λ _. ⌜ now (out .exit) ≡ sets (now (out .entry)) at (spaced (now (kind .entry)) (now (uri .entry))) ⌝ }
+    requires { ⌜ at + length (kindThenUri (now kind) (now uri)) ≤ length (now out) ⌝ }
+    ensures { λ r. ⌜ r ≡ at + length (kindThenUri (now (kind .entry)) (now (uri .entry))) ⌝ }
+    ensures { λ _. ⌜ now (out .exit) ≡ sets (now (out .entry)) at (kindThenUri (now (kind .entry)) (now (uri .entry))) ⌝ }
 {
     let a = sentence::put(out, at, kind);
     let b = sentence::put(out, a, b" ");

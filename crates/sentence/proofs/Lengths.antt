@@ -15,7 +15,7 @@ use Rattle.octets.specs.Text.{bytes}
 use Rattle.parts.specs.declared.Body.{Body}
 use Rattle.parts.specs.declared.Originator.{Originator}
 use Rattle.parts.specs.declared.Originator.the-variants.{Pep, Eas, Wxr, Civ}
-use Rattle.sentence.specs.Words.{Event, orgWords, events, wordsIn, eventWords, locationWord, others, joined, whoWords, whenWords, sentenceOf}
+use Rattle.sentence.specs.Words.{EventWords, orgWords, eventTable, wordsIn, eventWords, locationWord, others, locationWords, whoWords, whenWords, sentenceOf}
 
 pub org-le : (o : Originator) → length (orgWords o) ≤ 33
 unfolding orgWords bytes
@@ -25,10 +25,10 @@ org-le Wxr = lit≤ tt
 org-le Civ = lit≤ tt
 
 -- an event's words have at most n characters
-abbrev short : ℕ → Event → Bool
+abbrev short : ℕ → EventWords → Bool
 short n r = leb (length (r .words)) n
 
-words-le : (rs : List Event) (e : List ℕ) (n : ℕ) → every (short n) rs ≡ true → 6 + length e ≤ n → length (wordsIn rs e) ≤ n
+words-le : (rs : List EventWords) (e : List ℕ) (n : ℕ) → every (short n) rs ≡ true → 6 + length e ≤ n → length (wordsIn rs e) ≤ n
 unfolding wordsIn bytes
 words-le [] e n t h = omega arith
 words-le (r ∷ rs) e n t h =
@@ -37,7 +37,7 @@ words-le (r ∷ rs) e n t h =
 
 pub event-le : (e : List ℕ) → length e ≡ 3 → length (eventWords e) ≤ 29
 unfolding bytes every
-event-le e h = words-le events e 29 refl (omega arith)
+event-le e h = words-le eventTable e 29 refl (omega arith)
 
 location-le : (v : ℕ) → length (locationWord v) ≤ 6
 unfolding locationWord
@@ -48,8 +48,8 @@ unfolding others bytes
 others-le [] = omega arith
 others-le (v ∷ vs) = omega (arith, length-append (locationWord v) (others vs), location-le v, others-le vs)
 
-pub joined-le : (vs : List ℕ) → length vs ≤ 31 → length (joined vs) ≤ 246
-unfolding joined
+pub joined-le : (vs : List ℕ) → length vs ≤ 31 → length (locationWords vs) ≤ 246
+unfolding locationWords
 joined-le [] h = lit≤ tt
 joined-le (v ∷ vs) h = omega (arith, length-append (locationWord v) (others vs), location-le v, others-le vs)
 

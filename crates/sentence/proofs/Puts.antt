@@ -13,7 +13,7 @@ use Rattle.octets.proofs.Parts.{part-step, part-end}
 use Rattle.octets.proofs.Runs.{Run, goes-on, and}
 use Rattle.octets.specs.Digits.{digits}
 use Rattle.octets.specs.Text.{bytes}
-use Rattle.sentence.specs.Words.{locationWord, others, joined, whenWords}
+use Rattle.sentence.specs.Words.{locationWord, others, locationWords, whenWords}
 
 -- what a writer of ws at `at` promises of its end r and of what it leaves
 abbrev pub Put : List ℕ → ℕ → List ℕ → List ℕ → ℕ → Type 0
@@ -45,9 +45,9 @@ when-is period day hour minute = simp append-assoc
 -- ---- the locations, one by one
 
 module _ (list : List ℕ) (n : ℕ) (fits : n ≤ length list) where
-  pub joined-first : 1 ≤ n → joined (take n list) ≡ locationWord (getD list 0 0) ++ others (drop 1 (take n list))
-  unfolding joined
-  joined-first h = ap joined (part-step list 0 n 0 (omega arith) h)
+  pub joined-first : 1 ≤ n → locationWords (take n list) ≡ locationWord (getD list 0 0) ++ others (drop 1 (take n list))
+  unfolding locationWords
+  joined-first h = ap locationWords (part-step list 0 n 0 (omega arith) h)
 
   pub others-more : (k : ℕ) → k < n → others (drop k (take n list)) ≡ (bytes ", " ++ locationWord (getD list k 0)) ++ others (drop (k + 1) (take n list))
   unfolding others bytes

@@ -17,31 +17,31 @@ orgWords Eas = bytes "Broadcast station or cable system"
 orgWords Wxr = bytes "National Weather Service"
 orgWords Civ = bytes "Civil authorities"
 
-pub record Event : Type 0 where
+pub record EventWords : Type 0 where
   pub code : List ℕ
   pub words : List ℕ
 
-abbrev pub named : String → String → Event
-named code words = record { code = bytes code; words = bytes words }
+abbrev pub eventNamed : String → String → EventWords
+eventNamed code words = record { code = bytes code; words = bytes words }
 
 -- event words: EAN Emergency Action Notification, RMT Required Monthly Test, RWT Required Weekly Test, CEM Civil Emergency Message, FFW Flash Flood Warning, TOR Tornado Warning
-abbrev pub events : List Event
-events =
-    named "EAN" "Emergency Action Notification" ∷
-    named "RMT" "Required Monthly Test" ∷
-    named "RWT" "Required Weekly Test" ∷
-    named "CEM" "Civil Emergency Message" ∷
-    named "FFW" "Flash Flood Warning" ∷
-    named "TOR" "Tornado Warning" ∷
+abbrev pub eventTable : List EventWords
+eventTable =
+    eventNamed "EAN" "Emergency Action Notification" ∷
+    eventNamed "RMT" "Required Monthly Test" ∷
+    eventNamed "RWT" "Required Weekly Test" ∷
+    eventNamed "CEM" "Civil Emergency Message" ∷
+    eventNamed "FFW" "Flash Flood Warning" ∷
+    eventNamed "TOR" "Tornado Warning" ∷
     []
 
 -- any other, `event EEE`
-unfoldable pub wordsIn : List Event → List ℕ → List ℕ
+unfoldable pub wordsIn : List EventWords → List ℕ → List ℕ
 wordsIn [] e = bytes "event " ++ e
 wordsIn (r ∷ rs) e = pick (same e (r .code)) (r .words) (wordsIn rs e)
 
 abbrev pub eventWords : List ℕ → List ℕ
-eventWords e = wordsIn events e
+eventWords e = wordsIn eventTable e
 
 -- how the sentence names one location: by its code
 unfoldable pub locationWord : ℕ → List ℕ
@@ -52,9 +52,9 @@ unfoldable pub others : List ℕ → List ℕ
 others [] = []
 others (v ∷ vs) = bytes ", " ++ locationWord v ++ others vs
 
-unfoldable pub joined : List ℕ → List ℕ
-joined [] = []
-joined (v ∷ vs) = locationWord v ++ others vs
+unfoldable pub locationWords : List ℕ → List ℕ
+locationWords [] = []
+locationWords (v ∷ vs) = locationWord v ++ others vs
 
 -- `{ORG words} issued {event words} for locations `
 unfoldable pub whoWords : Originator → List ℕ → List ℕ
@@ -68,4 +68,4 @@ whenWords period day hour minute =
     bytes " for " ++ digits 2 (period / 60) ++ bytes " hours " ++ digits 2 (period % 60) ++ bytes " minutes."
 
 unfoldable pub sentenceOf : Body → List ℕ
-sentenceOf b = whoWords (b .originator) (b .event) ++ joined (take (b .count) (b .locations)) ++ whenWords (b .period) (b .day) (b .hour) (b .minute)
+sentenceOf b = whoWords (b .originator) (b .event) ++ locationWords (take (b .count) (b .locations)) ++ whenWords (b .period) (b .day) (b .hour) (b .minute)

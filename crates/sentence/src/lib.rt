@@ -7,7 +7,7 @@ ghost use Prim.Native.Nat.{_+_, _≤_};
 ghost use lib.ListN.{length, take, drop};
 ghost use lib.Seq.{sets};
 ghost use Rattle.octets.specs.Digits.{digits};
-ghost use Rattle.sentence.specs.Words.{orgWords, eventWords, locationWord, others, joined, whoWords, whenWords, sentenceOf};
+ghost use Rattle.sentence.specs.Words.{orgWords, eventWords, locationWord, others, locationWords, whoWords, whenWords, sentenceOf};
 
 // Puts t into `out` at `at`.
 pub fn put(out: &mut [u8], at: usize, t: &[u8]) -> usize
@@ -95,9 +95,9 @@ fn put_others(out: &mut [u8], at: usize, list: &[u32], n: usize) -> usize
 
 fn put_joined(out: &mut [u8], at: usize, list: &[u32], n: usize) -> usize
     requires { ⌜ (1 ≤ n) × (n ≤ length (now list)) ⌝ }
-    requires { ⌜ at + length (joined (take n (now list))) ≤ length (now out) ⌝ }
-    ensures { λ r. ⌜ r ≡ at + length (joined (take n (now (list .entry)))) ⌝ }
-    ensures { λ _. ⌜ now (out .exit) ≡ sets (now (out .entry)) at (joined (take n (now (list .entry)))) ⌝ }
+    requires { ⌜ at + length (locationWords (take n (now list))) ≤ length (now out) ⌝ }
+    ensures { λ r. ⌜ r ≡ at + length (locationWords (take n (now (list .entry)))) ⌝ }
+    ensures { λ _. ⌜ now (out .exit) ≡ sets (now (out .entry)) at (locationWords (take n (now (list .entry)))) ⌝ }
 {
     let e = put_location(out, at, list[0]);
     put_others(out, e, list, n)

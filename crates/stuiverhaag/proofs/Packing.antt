@@ -18,7 +18,7 @@ use Rattle.header.specs.Header.{readOf, writeOf}
 use Rattle.header.specs.declared.Read.{Read}
 use Rattle.header.specs.declared.Written.{Written}
 use Rattle.stuiverhaag.specs.Packed.{NarrowConverted, packedBody, NarrowBody, packedRead}
-use Rattle.parts.specs.Originator.{numberOf}
+use Rattle.parts.specs.Originator.{originatorNumber}
 use Rattle.parts.specs.declared.Originator.{Originator}
 use Rattle.parts.specs.declared.Originator.the-variants.{Pep, Eas, Wxr, Civ}
 use Rattle.parts.specs.declared.Parts.{Parts}
@@ -31,7 +31,7 @@ use Rattle.board.proofs.Boards.{board-within, kept}
 use Rattle.board.proofs.Answers.{offer-bad, hand-bad}
 use Rattle.board.proofs.Keeps.{Offer, offer-is, Hand, hand-is}
 use Rattle.offers.specs.WorkingRecords.{recordsOf}
-use Rattle.offers.specs.WorkingOffer.{refused, given, offerOf}
+use Rattle.offers.specs.WorkingOffer.{offerRefusedBy, offerGiven, messageOffer}
 use Rattle.offers.specs.declared.Offered.{Offered}
 use Rattle.offers.proofs.Offering.{judged-small}
 
@@ -45,7 +45,7 @@ convert-narrow s station h t u c is = rw is (narrow (convert-small s station h t
 
 -- ---- a header read
 
-number-small : (o : Originator) → numberOf o ≤ 4
+number-small : (o : Originator) → originatorNumber o ≤ 4
 number-small Pep = omega arith
 number-small Eas = omega arith
 number-small Wxr = omega arith
@@ -80,27 +80,27 @@ pub record NarrowOffered (o : Offered) : Type 0 where
   pub field : o .field ≤ 255
   pub added : o .added ≤ 65535
 
-records-narrow : (s : List ℕ) (rs : List (List ℕ)) → NarrowOffered (given (board.offerOf s rs) .answer)
+records-narrow : (s : List ℕ) (rs : List (List ℕ)) → NarrowOffered (offerGiven (board.offerOf s rs) .answer)
 records-narrow s rs = go (boardOk s) refl
   where
-    by : boardOk s ≡ true → Offer s rs → NarrowOffered (given (board.offerOf s rs) .answer)
+    by : boardOk s ≡ true → Offer s rs → NarrowOffered (offerGiven (board.offerOf s rs) .answer)
     by ok (Offer.taken l e) = rw e (record { number = omega arith; field = omega arith; added = omega (arith, l, kept s ok .high) })
     by ok (Offer.full l e) = rw e (record { number = omega arith; field = omega arith; added = omega arith })
 
-    go : (b : Bool) → boardOk s ≡ b → NarrowOffered (given (board.offerOf s rs) .answer)
+    go : (b : Bool) → boardOk s ≡ b → NarrowOffered (offerGiven (board.offerOf s rs) .answer)
     go true ok = by ok (offer-is s rs ok)
     go false e = rw (offer-bad s rs e) (record { number = omega arith; field = omega arith; added = omega arith })
 
-pub offer-narrow : (s m : List ℕ) → NarrowOffered (offerOf s m .answer)
-unfolding offerOf
+pub offer-narrow : (s m : List ℕ) → NarrowOffered (messageOffer s m .answer)
+unfolding messageOffer
 offer-narrow s m = of (boardOk s) _ _ (judged-small m)
   where
-    go : (a b : Bool) (number field : ℕ) → (number ≤ 17) × (field ≤ 7) → NarrowOffered (pick a (pick b (given (board.offerOf s (recordsOf m))) (refused number field s)) (refused 1 0 s) .answer)
+    go : (a b : Bool) (number field : ℕ) → (number ≤ 17) × (field ≤ 7) → NarrowOffered (pick a (pick b (offerGiven (board.offerOf s (recordsOf m))) (offerRefusedBy number field s)) (offerRefusedBy 1 0 s) .answer)
     go false b number field j = record { number = omega arith; field = omega arith; added = omega arith }
     go true false number field j = record { number = omega arith; field = omega arith; added = omega arith }
     go true true number field j = records-narrow s (recordsOf m)
 
-    of : (a : Bool) (number field : ℕ) → (number ≤ 17) × (field ≤ 7) → NarrowOffered (pick a (pick (eqb number 0) (given (board.offerOf s (recordsOf m))) (refused number field s)) (refused 1 0 s) .answer)
+    of : (a : Bool) (number field : ℕ) → (number ≤ 17) × (field ≤ 7) → NarrowOffered (pick a (pick (eqb number 0) (offerGiven (board.offerOf s (recordsOf m))) (offerRefusedBy number field s)) (offerRefusedBy 1 0 s) .answer)
     of a number field j = go a (eqb number 0) number field j
 
 -- ---- a hand-out

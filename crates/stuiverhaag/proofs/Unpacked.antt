@@ -9,11 +9,11 @@ use native.Mathlib.Omega.{arith}
 use lib.Dec.{leb, eqb}
 use lib.ListN.{length}
 use Rattle.octets.specs.Bytes.{pick}
-use Rattle.parts.specs.Originator.{numberOf}
+use Rattle.parts.specs.Originator.{originatorNumber}
 use Rattle.parts.specs.Parts.{bodyOk, stationOk}
 use Rattle.parts.specs.declared.Parts.{Parts}
 use Rattle.header.proofs.WriteThenRead.{write-small}
-use Rattle.header.specs.Header.{partsOf, refusal, headerForm, readOf, writeNumber, writeOf}
+use Rattle.header.specs.Header.{partsIn, refusal, headerForm, readOf, writeNumber, writeOf}
 use Rattle.header.specs.declared.Read.{Read}
 use Rattle.header.specs.declared.Written.{Written}
 use Rattle.convert.proofs.Answers.{convert-refused}
@@ -22,7 +22,7 @@ use Rattle.convert.specs.WorkingConvert.{convertOf}
 use Rattle.convert.specs.declared.Converted.{Converted}
 use Rattle.board.specs.WorkingCalls.{handOf}
 use Rattle.board.specs.declared.Handed.{Handed}
-use Rattle.offers.specs.WorkingOffer.{offerOf}
+use Rattle.offers.specs.WorkingOffer.{messageOffer}
 use Rattle.offers.specs.declared.Offered.{Offered}
 use Rattle.stuiverhaag.proofs.Packing.{convert-narrow, read-narrow, offer-narrow, hand-narrow}
 use Rattle.stuiverhaag.specs.Packed.{bit8, bit16, bit24, bit28, bit32, bit48, bit55, packedConverted, NarrowConverted, NarrowBody, packedRead, packedWritten, packedOffered, packedHanded}
@@ -60,7 +60,7 @@ refusal-alone s station h t u e =
 
 pub record HasRead (n : ℕ) (r : Read) : Type 0 where
   pub number : n % 256 ≡ r .number
-  pub originator : n / bit8 % 256 ≡ pick (eqb (r .number) 0) (numberOf (r .parts .body .originator)) 0
+  pub originator : n / bit8 % 256 ≡ pick (eqb (r .number) 0) (originatorNumber (r .parts .body .originator)) 0
   pub locations : n / bit16 % 256 ≡ r .parts .body .count
   pub hour : n / bit24 % 256 ≡ r .parts .body .hour
   pub period : n / bit32 % 65536 ≡ r .parts .body .period
@@ -72,7 +72,7 @@ unfolding packedRead readOf
 read-unpacked s = go (headerForm s) (read-narrow s (readOf s) refl)
   where
     found : Bool → Read
-    found b = pick {A = Read} b (record { number = 0; parts = partsOf s }) refusal
+    found b = pick {A = Read} b (record { number = 0; parts = partsIn s }) refusal
 
     go : (b : Bool) → NarrowBody (found b .parts .body) → HasRead (packedRead (found b)) (found b)
     go true w = record { number = omega arith; originator = omega arith; locations = omega arith; hour = omega arith; period = omega arith; minute = omega arith; day = omega arith }
@@ -108,7 +108,7 @@ pub record HasOffered (n : ℕ) (o : Offered) : Type 0 where
   pub field : n / bit8 % 256 ≡ o .field
   pub added : n / bit16 % 65536 ≡ o .added
 
-pub offer-unpacked : (s m : List ℕ) → let o = offerOf s m .answer in HasOffered (packedOffered o) o
+pub offer-unpacked : (s m : List ℕ) → let o = messageOffer s m .answer in HasOffered (packedOffered o) o
 offer-unpacked s m = let w = offer-narrow s m in record { number = omega arith; field = omega arith; added = omega arith }
 
 pub record HasHanded (n : ℕ) (h : Handed) : Type 0 where

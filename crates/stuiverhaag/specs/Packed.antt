@@ -3,7 +3,7 @@
 use Prim.Native.Nat.{ℕ, _+_, _*_, _≤_}
 use lib.Dec.{eqb}
 use Rattle.octets.specs.Bytes.{pick}
-use Rattle.parts.specs.Originator.{numberOf}
+use Rattle.parts.specs.Originator.{originatorNumber}
 use Rattle.parts.specs.declared.Body.{Body}
 use Rattle.header.specs.declared.Read.{Read}
 use Rattle.header.specs.declared.Written.{Written}
@@ -54,11 +54,11 @@ pub record NarrowConverted (c : Converted) : Type 0 where
 
 -- 8 originator, 16 locations, 24 hour, 32 period in minutes, 48 minute, 55 day
 abbrev pub packedBody : Body → ℕ
-packedBody b = numberOf (b .originator) * bit8 + b .count * bit16 + b .hour * bit24 + b .period * bit32 + b .minute * bit48 + b .day * bit55
+packedBody b = originatorNumber (b .originator) * bit8 + b .count * bit16 + b .hour * bit24 + b .period * bit32 + b .minute * bit48 + b .day * bit55
 
 -- what its bits hold
 pub record NarrowBody (b : Body) : Type 0 where
-  pub originator : numberOf (b .originator) ≤ 255
+  pub originator : originatorNumber (b .originator) ≤ 255
   pub count : b .count ≤ 255
   pub hour : b .hour ≤ 255
   pub period : b .period ≤ 65535

@@ -11,7 +11,7 @@ ghost use Rattle.header.specs.Header.{readOf, writeOf, writeBytes};
 ghost use Rattle.convert.specs.WorkingConvert.{convertOf};
 ghost use Rattle.convert.specs.Convert.{answerOf};
 ghost use Rattle.board.specs.WorkingCalls.{handOf};
-ghost use Rattle.offers.specs.WorkingOffer.{offerOf};
+ghost use Rattle.offers.specs.WorkingOffer.{messageOffer};
 ghost use Rattle.stuiverhaag.specs.Packed.{bit28, packedConverted, NarrowConverted, packedBody, NarrowBody, packedRead, packedWritten, packedOffered, packedHanded};
 
 // What a bit counts.
@@ -136,8 +136,8 @@ pub extern "C" fn stuiverhaag_write_header(
 // Offers a message: how many records were added, or 1 and 4 to 15 and nothing written.
 #[no_mangle]
 pub extern "C" fn stuiverhaag_offer(s: &mut [u8], message: &[u8]) -> u64
-    ensures { λ r. ⌜ r ≡ packedOffered (offerOf (now (s .entry)) (now (message .entry)) .answer) ⌝ }
-    ensures { λ _. ⌜ now (s .exit) ≡ offerOf (now (s .entry)) (now (message .entry)) .bytes ⌝ }
+    ensures { λ r. ⌜ r ≡ packedOffered (messageOffer (now (s .entry)) (now (message .entry)) .answer) ⌝ }
+    ensures { λ _. ⌜ now (s .exit) ≡ messageOffer (now (s .entry)) (now (message .entry)) .bytes ⌝ }
 {
     let o = offers::offer(s, message);
     (o.number as u64) + (o.field as u64) * BIT8 + (o.added as u64) * BIT16

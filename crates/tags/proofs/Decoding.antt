@@ -16,7 +16,7 @@ use Rattle.octets.proofs.Sames.{same-step, same-stop}
 use Rattle.pieces.specs.Pieces.{charAt}
 use Rattle.pieces.specs.declared.Ref.the-variants.{Byte, Wrong}
 use Rattle.pieces.proofs.Goes.{Goes, char-goes}
-use Rattle.tags.specs.Attributes.{joined, decodedFrom, decodedAt}
+use Rattle.tags.specs.Attributes.{characterThen, decodedFrom, decodedAt}
 
 pub record Decoding (s w : List ℕ) (q : ℕ) (whole : Bool) (i k : ℕ) : Type 0 where
   pub fuel : ℕ
@@ -50,7 +50,7 @@ module _ (s w : List ℕ) (q : ℕ) (whole : Bool) (i k : ℕ) (d : Decoding s w
       go (suc n) = rw (eq-eqb (byteAt s i) q e, decodedFrom)
 
   pub decoding-wrong : (byteAt s i ≡ q → ⊥) → charAt s i ≡ Wrong → eqb k (length w) ≡ whole
-  unfolding decodedFrom joined
+  unfolding decodedFrom characterThen
   decoding-wrong n e = ended go
     where
       go : (m : ℕ) → decodedFrom s q m i ≡ []
@@ -68,7 +68,7 @@ module _ {s w : List ℕ} {q : ℕ} {whole : Bool} {i k b j : ℕ} (r : Read s w
   decoding-on = rw (r .is) at (char-goes s i)
 
   step : (m : ℕ) → decodedFrom s q (suc m) i ≡ b ∷ decodedFrom s q m j
-  unfolding decodedFrom joined
+  unfolding decodedFrom characterThen
   step m = rw (ne-eqb (byteAt s i) q (r .no-end), r .is, decodedFrom)
 
   -- one character and what follows it, whatever is left to take

@@ -23,8 +23,8 @@ use Rattle.pieces.specs.declared.Step.the-variants.{Go, Stop, Stuck}
 use Rattle.pieces.proofs.Words.{inside-is}
 use Rattle.pieces.proofs.Goes.{Goes, PastGoes, EndGoes, RefGoes, space-ge, name-goes, char-goes}
 use Rattle.pieces.proofs.Walks.{StepGoes, walk-goes}
-use Rattle.tags.specs.Attributes.{over, bitAt, valueAt, valued, equalled, attrAt, sought, seekAt, attrNamed}
-use Rattle.tags.specs.Tags.{fresh, taken, takeAt, shutAt, tailAt, tailed, openAt, closeAt}
+use Rattle.tags.specs.Attributes.{over, bitAt, quotedAt, attributeOf, equalled, attrAt, sought, seekAt, attrNamed}
+use Rattle.tags.specs.Tags.{unlessNamed, taken, takeAt, shutAt, tailAt, tailed, openAt, closeAt}
 use Rattle.tags.specs.WorkingTree.{way, apart, looked, lookAt}
 use Rattle.tags.specs.declared.Attr.{Attr}
 use Rattle.tags.specs.declared.Attr.the-variants.{Of, Last, None}
@@ -46,8 +46,8 @@ bit-goes s q z i l = go (eqb (byteAt s i) q) refl
     go true p = let h = inside-is s i q z (eqb-true _ _ p) in (omega arith, omega arith)
     go false p = over-goes s i (charAt s i) (char-goes s i)
 
-value-goes : (s : List ℕ) (i : ℕ) → PastGoes s i (valueAt s i)
-unfolding valueAt
+value-goes : (s : List ℕ) (i : ℕ) → PastGoes s i (quotedAt s i)
+unfolding quotedAt
 value-goes s i = go (eqb (byteAt s i) 34) refl (eqb (byteAt s i) 39) refl
   where
     behind : (e : End) → EndGoes s (i + 1) e → PastGoes s i e
@@ -70,19 +70,19 @@ AttrGoes s i (Last j) = (i ≤ j) × (j < length s)
 AttrGoes s i None = Unit {0}
 
 pub attr-goes : (s : List ℕ) (i : ℕ) → AttrGoes s i (attrAt s i)
-unfolding attrAt equalled valued
+unfolding attrAt equalled attributeOf
 attr-goes s i = go (eqb (byteAt s (past isSpace s i)) 62) refl (eqb (byteAt s (past isSpace s i)) 47) refl (eqb (past isSpace s i) i)
   where
-    val : (e v : ℕ) → past isSpace s i < e → e < v → (x : End) → PastGoes s v x → AttrGoes s i (valued (past isSpace s i) e v x)
+    val : (e v : ℕ) → past isSpace s i < e → e < v → (x : End) → PastGoes s v x → AttrGoes s i (attributeOf (past isSpace s i) e v x)
     val e v a b (At w) g = let h = space-ge s i in (h, a, b, g .on, g .in-it)
     val e v a b No g = tt
 
     eq : (e : ℕ) → past isSpace s i < e → (b : Bool)
-        → AttrGoes s i (pick b (valued (past isSpace s i) e (past isSpace s (past isSpace s e + 1)) (valueAt s (past isSpace s (past isSpace s e + 1)))) None)
+        → AttrGoes s i (pick b (attributeOf (past isSpace s i) e (past isSpace s (past isSpace s e + 1)) (quotedAt s (past isSpace s (past isSpace s e + 1)))) None)
     eq e a true =
         let h = space-ge s e in
         let k = space-ge s (past isSpace s e + 1) in
-        val e (past isSpace s (past isSpace s e + 1)) a (omega arith) (valueAt s (past isSpace s (past isSpace s e + 1))) (value-goes s (past isSpace s (past isSpace s e + 1)))
+        val e (past isSpace s (past isSpace s e + 1)) a (omega arith) (quotedAt s (past isSpace s (past isSpace s e + 1))) (value-goes s (past isSpace s (past isSpace s e + 1)))
     eq e a false = tt
 
     nam : (x : End) → nameAt s (past isSpace s i) ≡ x → AttrGoes s i (equalled s (past isSpace s i) x)
@@ -136,10 +136,10 @@ named-goes s w i stop l = walk-goes (seekAt s w stop) s (seek-goes s w stop) (su
 -- ---- tags
 
 pub take-goes : (s : List ℕ) (a i : ℕ) → i ≤ length s → StepGoes s i (takeAt s a i)
-unfolding takeAt taken fresh
+unfolding takeAt taken unlessNamed
 take-goes s a i l = go (attrAt s i) (attr-goes s i)
   where
-    of : (w : ℕ) → Goes s i w → (x : End) → StepGoes s i (fresh x w)
+    of : (w : ℕ) → Goes s i w → (x : End) → StepGoes s i (unlessNamed x w)
     of w g (At k) = tt
     of w g No = g
 

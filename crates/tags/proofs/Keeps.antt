@@ -19,8 +19,8 @@ use Rattle.pieces.specs.declared.Step.{Step}
 use Rattle.pieces.specs.declared.Step.the-variants.{Go, Stop, Stuck}
 use Rattle.pieces.proofs.Walks.{Walking, StepGoes, walk-starts, walk-moves, walk-stops, walk-stuck}
 use Rattle.tags.specs.Attributes.{attrAt, sought, seekAt, attrNamed}
-use Rattle.tags.specs.Tags.{fresh, taken, takeAt}
-use Rattle.tags.specs.WorkingTree.{nodes, cells, nameOf, way, Tree, hung, Grown, apart, looked, lookAt}
+use Rattle.tags.specs.Tags.{unlessNamed, taken, takeAt}
+use Rattle.tags.specs.WorkingTree.{nodes, cells, nodeName, way, NameTree, hung, Grown, apart, looked, lookAt}
 use Rattle.tags.specs.declared.Attr.{Attr}
 use Rattle.tags.specs.declared.Attr.the-variants.{Of, Last, None}
 use Rattle.tags.proofs.Goes.{attr-read, seek-goes, take-goes}
@@ -57,11 +57,11 @@ also-none No = refl
 
 pub record Kept (s t : List ℕ) (at i n : ℕ) : Type 0 where
   pub walking : Walking (takeAt s at) s at i
-  pub tree : Tree s t n
+  pub tree : NameTree s t n
   pub far : at + n ≤ i + 1
   -- the search for a name that no node has comes to i too, and the search for that of a node ends before
   pub seeking : (w : List ℕ) (x stop : ℕ) → way s t w ≡ At x → i ≤ stop → Walking (seekAt s w stop) s at i
-  pub ended : (k stop : ℕ) → 0 < k → k < n → i ≤ stop → (v : ℕ) × (At v ≡ walkAt (seekAt s (nameOf s t k) stop) s at)
+  pub ended : (k stop : ℕ) → 0 < k → k < n → i ≤ stop → (v : ℕ) × (At v ≡ walkAt (seekAt s (nodeName s t k) stop) s at)
 
 pub kept-starts : (s : List ℕ) (at : ℕ) → at ≤ length s → Kept s (replicate {A = ℕ} cells 0) at at 1
 kept-starts s at l =
@@ -77,16 +77,16 @@ module _ (s t : List ℕ) (at i n : ℕ) (kept : Kept s t at i n) where
   found : (w : List ℕ) (stop : ℕ) → 0 < length w → way s t w ≡ No → i ≤ stop → (v : ℕ) × (At v ≡ walkAt (seekAt s w stop) s at)
   found w stop z q l = go (met-node s t w n (kept .tree) q)
     where
-      go : (q : ℕ) × (q < n) × (same (nameOf s t q) w ≡ true) → (v : ℕ) × (At v ≡ walkAt (seekAt s w stop) s at)
-      go (zero, a, p) = let e = ap length (sym (root-bare s t n (kept .tree)) ∙ same-is (nameOf s t 0) w p) in absurd (omega arith)
-      go (suc k, a, p) = rw (same-is (nameOf s t (suc k)) w p) at (kept .ended (suc k) stop (omega arith) a l)
+      go : (q : ℕ) × (q < n) × (same (nodeName s t q) w ≡ true) → (v : ℕ) × (At v ≡ walkAt (seekAt s w stop) s at)
+      go (zero, a, p) = let e = ap length (sym (root-bare s t n (kept .tree)) ∙ same-is (nodeName s t 0) w p) in absurd (omega arith)
+      go (suc k, a, p) = rw (same-is (nodeName s t (suc k)) w p) at (kept .ended (suc k) stop (omega arith) a l)
 
   module _ (p j e v w : ℕ) (from : i ≤ p) (read : attrAt s p ≡ Of j e v w) where
     named : 0 < length (part s j (e - j))
     named = let g = attr-read s p j e v w read in simp (length-take, length-drop) (omega arith)
 
     pub met : way s t (part s j (e - j)) ≡ No → takeAt s at p ≡ Stuck
-    unfolding takeAt taken fresh attrNamed
+    unfolding takeAt taken unlessNamed attrNamed
     met q = let g = attr-read s p j e v w read in let h = found (part s j (e - j)) j named q (omega arith) in rw (read, ← (h .1))
 
     unmet : (x : ℕ) → way s t (part s j (e - j)) ≡ At x → takeAt s at p ≡ takeAt s i p
@@ -100,7 +100,7 @@ module _ (s t : List ℕ) (at i n : ℕ) (kept : Kept s t at i n) where
 
   module _ (j e v w : ℕ) (read : attrAt s i ≡ Of j e v w) (u : List ℕ) (room : n < nodes) (new : Grown s t u j e n) where
     unseen : takeAt s at i ≡ Go w
-    unfolding takeAt taken fresh seekAt sought attrNamed
+    unfolding takeAt taken unlessNamed seekAt sought attrNamed
     unseen =
         let g = attr-read s i j e v w read in
         let k = part s j (e - j) in
@@ -121,10 +121,10 @@ module _ (s t : List ℕ) (at i n : ℕ) (kept : Kept s t at i n) where
     unfolding seekAt sought
     hit stop l = let g = attr-read s i j e v w read in rw (read, lt-leb stop j (omega arith), same-refl)
 
-    ends : (k stop : ℕ) → 0 < k → k < n + 1 → w ≤ stop → (v : ℕ) × (At v ≡ walkAt (seekAt s (nameOf s (hung t (new .cell) n j e) k) stop) s at)
+    ends : (k stop : ℕ) → 0 < k → k < n + 1 → w ≤ stop → (v : ℕ) × (At v ≡ walkAt (seekAt s (nodeName s (hung t (new .cell) n j e) k) stop) s at)
     ends k stop z m l = go (eqb k n) refl
       where
-        go : (b : Bool) → eqb k n ≡ b → (v : ℕ) × (At v ≡ walkAt (seekAt s (nameOf s (hung t (new .cell) n j e) k) stop) s at)
+        go : (b : Bool) → eqb k n ≡ b → (v : ℕ) × (At v ≡ walkAt (seekAt s (nodeName s (hung t (new .cell) n j e) k) stop) s at)
         go true p =
             let g = attr-read s i j e v w read in
             let q = part s j (e - j) in
@@ -158,7 +158,7 @@ module _ (s t : List ℕ) (at i n : ℕ) (kept : Kept s t at i n) where
     seen : takeAt s at p ≡ Stuck → lookAt s t p ≡ Stuck → Steps p
 
   steps : (p : ℕ) → i ≤ p → Steps p
-  unfolding takeAt taken fresh lookAt looked apart
+  unfolding takeAt taken unlessNamed lookAt looked apart
   steps p l = go (attrAt s p) refl
     where
       go : (x : Attr) → attrAt s p ≡ x → Steps p

@@ -18,14 +18,14 @@ use Rattle.octets.proofs.Sames.{same-is, same-refl}
 use Rattle.octets.proofs.Tests.{never}
 use Rattle.pieces.specs.declared.End.{End}
 use Rattle.pieces.specs.declared.End.the-variants.{At, No}
-use Rattle.tags.specs.WorkingTree.{nodes, cells, turnOf, cellOf, nameOf, onward, wayFrom, way, Tree, hung}
+use Rattle.tags.specs.WorkingTree.{nodes, cells, bitOf, cellOf, nodeName, nodeOn, wayFrom, way, NameTree, hung}
 
-pub turn-small : (w : List ℕ) (d : ℕ) → turnOf w d < 2
-unfolding turnOf
+pub turn-small : (w : List ℕ) (d : ℕ) → bitOf w d < 2
+unfolding bitOf
 turn-small w d = omega arith
 
-onward-on : (k x : ℕ) (rest : ℕ → End) → 0 < k → onward k x rest ≡ rest k
-unfolding onward
+onward-on : (k x : ℕ) (rest : ℕ → End) → 0 < k → nodeOn k x rest ≡ rest k
+unfolding nodeOn
 onward-on zero x rest h = absurd (omega arith)
 onward-on (suc k) x rest h = refl
 
@@ -42,7 +42,7 @@ zeros zero i = refl
 zeros (suc m) zero = refl
 zeros (suc m) (suc i) = zeros m i
 
-pub tree-bare : (s : List ℕ) → Tree s (replicate {A = ℕ} cells 0) 1
+pub tree-bare : (s : List ℕ) → NameTree s (replicate {A = ℕ} cells 0) 1
 tree-bare s =
     record {
       some = omega arith;
@@ -56,7 +56,7 @@ tree-bare s =
     }
 
 -- as many nodes as there can be
-pub tree-full : (s t : List ℕ) (n : ℕ) → Tree s t n → Tree s t nodes
+pub tree-full : (s t : List ℕ) (n : ℕ) → NameTree s t n → NameTree s t nodes
 tree-full s t n tr =
     let x = tr .fits in
     record {
@@ -70,8 +70,8 @@ tree-full s t n tr =
       rises = tr .rises;
     }
 
-pub root-bare : (s t : List ℕ) (n : ℕ) → Tree s t n → nameOf s t 0 ≡ []
-unfolding nameOf
+pub root-bare : (s t : List ℕ) (n : ℕ) → NameTree s t n → nodeName s t 0 ≡ []
+unfolding nodeName
 root-bare s t n tr = rw (tr .root, zero-sub)
 
 -- ---- the way of w
@@ -93,44 +93,44 @@ pub record OnWay (s t w : List ℕ) (n d k : ℕ) : Type 0 where
   pub deep : d ≤ k
   pub whole : wayFrom s t w left d k ≡ way s t w
 
-module _ (s t w : List ℕ) (n : ℕ) (tr : Tree s t n) where
+module _ (s t w : List ℕ) (n : ℕ) (tr : NameTree s t n) where
   way-slot : (x m d k : ℕ) → k < n → wayFrom s t w m d k ≡ At x → Slot t n x
-  unfolding wayFrom onward
+  unfolding wayFrom nodeOn
   way-slot x zero d k l h = no-at x h
-  way-slot x (suc m) d k l h = go (same (nameOf s t k) w) (getD t (cellOf w d k) 0) refl h (way-slot x m (d + 1))
+  way-slot x (suc m) d k l h = go (same (nodeName s t k) w) (getD t (cellOf w d k) 0) refl h (way-slot x m (d + 1))
     where
-      go : (b : Bool) (a : ℕ) → getD t (cellOf w d k) 0 ≡ a → pick b No (onward a (cellOf w d k) (wayFrom s t w m (d + 1))) ≡ At x
+      go : (b : Bool) (a : ℕ) → getD t (cellOf w d k) 0 ≡ a → pick b No (nodeOn a (cellOf w d k) (wayFrom s t w m (d + 1))) ≡ At x
           → ((k : ℕ) → k < n → wayFrom s t w m (d + 1) k ≡ At x → Slot t n x) → Slot t n x
       go true a e h r = no-at x h
-      go false zero e h r = let q = at-is (cellOf w d k) x h in record { k = k; b = turnOf w d; low = turn-small w d; node = l; is = sym q; free = rw (← q) e }
-      go false (suc a) e h r = r (suc a) (rw e at (tr .onto k (turnOf w d) (turn-small w d))) h
+      go false zero e h r = let q = at-is (cellOf w d k) x h in record { k = k; b = bitOf w d; low = turn-small w d; node = l; is = sym q; free = rw (← q) e }
+      go false (suc a) e h r = r (suc a) (rw e at (tr .onto k (bitOf w d) (turn-small w d))) h
 
   pub free-slot : (x : ℕ) → way s t w ≡ At x → Slot t n x
   free-slot x h = way-slot x (length t) 0 0 (tr .some) h
 
-  way-node : (m d k : ℕ) → k < n → length t ≤ k + m → wayFrom s t w m d k ≡ No → (q : ℕ) × (q < n) × (same (nameOf s t q) w ≡ true)
-  unfolding wayFrom onward
+  way-node : (m d k : ℕ) → k < n → length t ≤ k + m → wayFrom s t w m d k ≡ No → (q : ℕ) × (q < n) × (same (nodeName s t q) w ≡ true)
+  unfolding wayFrom nodeOn
   way-node zero d k l r h = let x = tr .fits in let y = tr .long in absurd (omega arith)
-  way-node (suc m) d k l r h = go (same (nameOf s t k) w) refl (getD t (cellOf w d k) 0) refl h (way-node m (d + 1))
+  way-node (suc m) d k l r h = go (same (nodeName s t k) w) refl (getD t (cellOf w d k) 0) refl h (way-node m (d + 1))
     where
-      go : (b : Bool) → same (nameOf s t k) w ≡ b → (a : ℕ) → getD t (cellOf w d k) 0 ≡ a → pick b No (onward a (cellOf w d k) (wayFrom s t w m (d + 1))) ≡ No
-          → ((k : ℕ) → k < n → length t ≤ k + m → wayFrom s t w m (d + 1) k ≡ No → (q : ℕ) × (q < n) × (same (nameOf s t q) w ≡ true))
-          → (q : ℕ) × (q < n) × (same (nameOf s t q) w ≡ true)
+      go : (b : Bool) → same (nodeName s t k) w ≡ b → (a : ℕ) → getD t (cellOf w d k) 0 ≡ a → pick b No (nodeOn a (cellOf w d k) (wayFrom s t w m (d + 1))) ≡ No
+          → ((k : ℕ) → k < n → length t ≤ k + m → wayFrom s t w m (d + 1) k ≡ No → (q : ℕ) × (q < n) × (same (nodeName s t q) w ≡ true))
+          → (q : ℕ) × (q < n) × (same (nodeName s t q) w ≡ true)
       go true p a e h f = (k, l, p)
       go false p zero e h f = no-at (cellOf w d k) (sym h)
       go false p (suc a) e h f =
-          let o = tr .onto k (turnOf w d) (turn-small w d) in
-          let i = tr .rises k (turnOf w d) (turn-small w d) (omega arith) in
+          let o = tr .onto k (bitOf w d) (turn-small w d) in
+          let i = tr .rises k (bitOf w d) (turn-small w d) (omega arith) in
           f (suc a) (omega arith) (omega arith) h
 
-  pub met-node : way s t w ≡ No → (q : ℕ) × (q < n) × (same (nameOf s t q) w ≡ true)
+  pub met-node : way s t w ≡ No → (q : ℕ) × (q < n) × (same (nodeName s t q) w ≡ true)
   met-node h = way-node (length t) 0 0 (tr .some) (omega arith) h
 
   pub way-starts : OnWay s t w n 0 0
   way-starts = record { left = length t; room = omega arith; node = tr .some; deep = omega arith; whole = refl }
 
   module _ (d k : ℕ) (on : OnWay s t w n d k) where
-    pub way-met : same (nameOf s t k) w ≡ true → No ≡ way s t w
+    pub way-met : same (nodeName s t k) w ≡ true → No ≡ way s t w
     unfolding wayFrom
     way-met p = go (on .left) (on .whole)
       where
@@ -138,34 +138,34 @@ module _ (s t w : List ℕ) (n : ℕ) (tr : Tree s t n) where
         go zero q = q
         go (suc m) q = sym (rw p) ∙ q
 
-    pub way-ends : same (nameOf s t k) w ≡ false → getD t (cellOf w d k) 0 ≡ 0 → At (cellOf w d k) ≡ way s t w
-    unfolding wayFrom onward
+    pub way-ends : same (nodeName s t k) w ≡ false → getD t (cellOf w d k) 0 ≡ 0 → At (cellOf w d k) ≡ way s t w
+    unfolding wayFrom nodeOn
     way-ends p f = go (on .left) (on .room) (on .whole)
       where
         go : (m : ℕ) → length t ≤ k + m → wayFrom s t w m d k ≡ way s t w → At (cellOf w d k) ≡ way s t w
         go zero r q = let x = on .node in let y = tr .fits in let z = tr .long in absurd (omega arith)
         go (suc m) r q = sym (rw (p, f)) ∙ q
 
-    pub way-moves : same (nameOf s t k) w ≡ false → 0 < getD t (cellOf w d k) 0 → OnWay s t w n (d + 1) (getD t (cellOf w d k) 0)
+    pub way-moves : same (nodeName s t k) w ≡ false → 0 < getD t (cellOf w d k) 0 → OnWay s t w n (d + 1) (getD t (cellOf w d k) 0)
     unfolding wayFrom
     way-moves p f = go (on .left) (on .room) (on .whole)
       where
         go : (m : ℕ) → length t ≤ k + m → wayFrom s t w m d k ≡ way s t w → OnWay s t w n (d + 1) (getD t (cellOf w d k) 0)
         go zero r q = let x = on .node in let y = tr .fits in let z = tr .long in absurd (omega arith)
         go (suc m) r q =
-            let i = tr .rises k (turnOf w d) (turn-small w d) f in
+            let i = tr .rises k (bitOf w d) (turn-small w d) f in
             let x = on .deep in
             record {
               left = m;
               room = omega arith;
-              node = tr .onto k (turnOf w d) (turn-small w d);
+              node = tr .onto k (bitOf w d) (turn-small w d);
               deep = omega arith;
               whole = sym (onward-on (getD t (cellOf w d k) 0) (cellOf w d k) (wayFrom s t w m (d + 1)) f) ∙ sym (rw p) ∙ q;
             }
 
 -- ---- a new node
 
-module _ (s t : List ℕ) (n j e x : ℕ) (tr : Tree s t n) (free : way s t (part s j (e - j)) ≡ At x) (room : n < nodes) where
+module _ (s t : List ℕ) (n j e x : ℕ) (tr : NameTree s t n) (free : way s t (part s j (e - j)) ≡ At x) (room : n < nodes) where
   slot : Slot t n x
   slot = free-slot s t (part s j (e - j)) n tr x free
 
@@ -201,15 +201,15 @@ module _ (s t : List ℕ) (n j e x : ℕ) (tr : Tree s t n) (free : way s t (par
   hung-onto : (k b : ℕ) → b < 2 → (4 * k + 2 + b ≡ x → ⊥) → getD (hung t x n j e) (4 * k + 2 + b) 0 ≡ getD t (4 * k + 2 + b) 0
   hung-onto k b l ne = hung-other (4 * k + 2 + b) ne (λ q. omega arith) (λ q. omega arith)
 
-  pub hung-old : (k : ℕ) → (k ≡ n → ⊥) → nameOf s (hung t x n j e) k ≡ nameOf s t k
-  unfolding nameOf
+  pub hung-old : (k : ℕ) → (k ≡ n → ⊥) → nodeName s (hung t x n j e) k ≡ nodeName s t k
+  unfolding nodeName
   hung-old k ne = rw (hung-begins k ne, hung-ends k ne)
 
-  pub hung-new : nameOf s (hung t x n j e) n ≡ part s j (e - j)
-  unfolding nameOf
+  pub hung-new : nodeName s (hung t x n j e) n ≡ part s j (e - j)
+  unfolding nodeName
   hung-new = rw (hung-begin, hung-end)
 
-  pub hung-tree : j ≤ e → e ≤ length s → Tree s (hung t x n j e) (n + 1)
+  pub hung-tree : j ≤ e → e ≤ length s → NameTree s (hung t x n j e) (n + 1)
   hung-tree je es =
       record {
         some = omega arith;
@@ -245,33 +245,33 @@ module _ (s t : List ℕ) (n j e x : ℕ) (tr : Tree s t n) (free : way s t (par
   hung-still : (w : List ℕ) (d k a : ℕ) → getD t (cellOf w d k) 0 ≡ suc a → getD (hung t x n j e) (cellOf w d k) 0 ≡ suc a
   hung-still w d k a q =
       let f = slot .free in
-      hung-onto k (turnOf w d) (turn-small w d) (λ p. let i : getD t (cellOf w d k) 0 ≡ 0 = rw p f in omega arith) ∙ q
+      hung-onto k (bitOf w d) (turn-small w d) (λ p. let i : getD t (cellOf w d k) 0 ≡ 0 = rw p f in omega arith) ∙ q
 
   way-was : (w : List ℕ) (m d k y : ℕ) → k < n → wayFrom s (hung t x n j e) w m d k ≡ At y → (z : ℕ) × (wayFrom s t w m d k ≡ At z)
-  unfolding wayFrom onward
+  unfolding wayFrom nodeOn
   way-was w zero d k y l h = no-at y h
-  way-was w (suc m) d k y l h = go (same (nameOf s t k) w) (getD t (cellOf w d k) 0) refl (rw (hung-old k (λ q. omega arith)) at h) (way-was w m (d + 1))
+  way-was w (suc m) d k y l h = go (same (nodeName s t k) w) (getD t (cellOf w d k) 0) refl (rw (hung-old k (λ q. omega arith)) at h) (way-was w m (d + 1))
     where
       go : (b : Bool) (a : ℕ) → getD t (cellOf w d k) 0 ≡ a
-          → pick b No (onward (getD (hung t x n j e) (cellOf w d k) 0) (cellOf w d k) (wayFrom s (hung t x n j e) w m (d + 1))) ≡ At y
+          → pick b No (nodeOn (getD (hung t x n j e) (cellOf w d k) 0) (cellOf w d k) (wayFrom s (hung t x n j e) w m (d + 1))) ≡ At y
           → ((k y : ℕ) → k < n → wayFrom s (hung t x n j e) w m (d + 1) k ≡ At y → (z : ℕ) × (wayFrom s t w m (d + 1) k ≡ At z))
-          → (z : ℕ) × (pick b No (onward a (cellOf w d k) (wayFrom s t w m (d + 1))) ≡ At z)
+          → (z : ℕ) × (pick b No (nodeOn a (cellOf w d k) (wayFrom s t w m (d + 1))) ≡ At z)
       go true a q h r = no-at y h
       go false zero q h r = (cellOf w d k, refl)
-      go false (suc a) q h r = let o = tr .onto k (turnOf w d) (turn-small w d) in r (suc a) y (omega arith) (rw (hung-still w d k a q) at h)
+      go false (suc a) q h r = let o = tr .onto k (bitOf w d) (turn-small w d) in r (suc a) y (omega arith) (rw (hung-still w d k a q) at h)
 
   way-not : (w : List ℕ) → w ≡ part s j (e - j) → (m d k y : ℕ) → k < n → wayFrom s t w m d k ≡ At x → wayFrom s (hung t x n j e) w m d k ≡ At y → ⊥
-  unfolding wayFrom onward
+  unfolding wayFrom nodeOn
   way-not w v zero d k y l g h = no-at y h
-  way-not w v (suc m) d k y l g h = go (same (nameOf s t k) w) (getD t (cellOf w d k) 0) refl g (rw (hung-old k (λ q. omega arith)) at h) (way-not w v m (d + 1))
+  way-not w v (suc m) d k y l g h = go (same (nodeName s t k) w) (getD t (cellOf w d k) 0) refl g (rw (hung-old k (λ q. omega arith)) at h) (way-not w v m (d + 1))
     where
       new : (m d y : ℕ) → wayFrom s (hung t x n j e) w m d n ≡ At y → ⊥
       new zero d y h = no-at y h
       new (suc m) d y h = no-at y (rw (hung-new, v, same-refl) at h)
 
       go : (b : Bool) (a : ℕ) → getD t (cellOf w d k) 0 ≡ a
-          → pick b No (onward a (cellOf w d k) (wayFrom s t w m (d + 1))) ≡ At x
-          → pick b No (onward (getD (hung t x n j e) (cellOf w d k) 0) (cellOf w d k) (wayFrom s (hung t x n j e) w m (d + 1))) ≡ At y
+          → pick b No (nodeOn a (cellOf w d k) (wayFrom s t w m (d + 1))) ≡ At x
+          → pick b No (nodeOn (getD (hung t x n j e) (cellOf w d k) 0) (cellOf w d k) (wayFrom s (hung t x n j e) w m (d + 1))) ≡ At y
           → ((k y : ℕ) → k < n → wayFrom s t w m (d + 1) k ≡ At x → wayFrom s (hung t x n j e) w m (d + 1) k ≡ At y → ⊥)
           → ⊥
       go true a q g h r = no-at y h
@@ -279,7 +279,7 @@ module _ (s t : List ℕ) (n j e x : ℕ) (tr : Tree s t n) (free : way s t (par
           let z = at-is (cellOf w d k) x g in
           let f : getD (hung t x n j e) (cellOf w d k) 0 ≡ n = rw z hung-link in
           new m (d + 1) y (sym (onward-on n (cellOf w d k) (wayFrom s (hung t x n j e) w m (d + 1)) (tr .some)) ∙ (rw f at h))
-      go false (suc a) q g h r = let o = tr .onto k (turnOf w d) (turn-small w d) in r (suc a) y (omega arith) g (rw (hung-still w d k a q) at h)
+      go false (suc a) q g h r = let o = tr .onto k (bitOf w d) (turn-small w d) in r (suc a) y (omega arith) g (rw (hung-still w d k a q) at h)
 
   pub free-was : (w : List ℕ) (y : ℕ) → way s (hung t x n j e) w ≡ At y → (z : ℕ) × (way s t w ≡ At z)
   free-was w y h = way-was w (length t) 0 0 y (tr .some) (rw hung-long at h)

@@ -28,19 +28,19 @@ unfoldable pub bitAt : List ℕ → ℕ → ℕ → Step
 bitAt s q i = pick (eqb (byteAt s i) q) (Stop (i + 1)) (over (charAt s i))
 
 -- a value in single or double quotes that holds no `<`: where it ends
-unfoldable pub valueAt : List ℕ → ℕ → End
-valueAt s i =
+unfoldable pub quotedAt : List ℕ → ℕ → End
+quotedAt s i =
     let q = byteAt s i in
     pick (eqb q 34) (walkAt (bitAt s 34) s (i + 1)) (pick (eqb q 39) (walkAt (bitAt s 39) s (i + 1)) No)
 
-unfoldable pub joined : Ref → (ℕ → List ℕ) → List ℕ
-joined (Byte b j) rest = b ∷ rest j
-joined Wrong rest = []
+unfoldable pub characterThen : Ref → (ℕ → List ℕ) → List ℕ
+characterThen (Byte b j) rest = b ∷ rest j
+characterThen Wrong rest = []
 
 -- the characters up to the quote q from i on, n at most
 unfoldable pub decodedFrom : List ℕ → ℕ → ℕ → ℕ → List ℕ
 decodedFrom s q zero i = []
-decodedFrom s q (suc n) i = elim (eqb (byteAt s i) q) [ true ↦ [] | false ↦ joined (charAt s i) (decodedFrom s q n) ]
+decodedFrom s q (suc n) i = elim (eqb (byteAt s i) q) [ true ↦ [] | false ↦ characterThen (charAt s i) (decodedFrom s q n) ]
 
 -- the value that begins with its quote at i, decoded and otherwise as it stands
 unfoldable pub decodedAt : List ℕ → ℕ → List ℕ
@@ -48,16 +48,16 @@ decodedAt s i = decodedFrom s (byteAt s i) (length s) (i + 1)
 
 -- ---- the next attribute
 
-unfoldable pub valued : ℕ → ℕ → ℕ → End → Attr
-valued j e v (At w) = Of j e v w
-valued j e v No = None
+unfoldable pub attributeOf : ℕ → ℕ → ℕ → End → Attr
+attributeOf j e v (At w) = Of j e v w
+attributeOf j e v No = None
 
 -- with `=` (white space allowed round it) and a value, behind a name from j to e
 unfoldable pub equalled : List ℕ → ℕ → End → Attr
 equalled s j (At e) =
     let q = past isSpace s e in
     let v = past isSpace s (q + 1) in
-    pick (eqb (byteAt s q) 61) (valued j e v (valueAt s v)) None
+    pick (eqb (byteAt s q) 61) (attributeOf j e v (quotedAt s v)) None
 equalled s j No = None
 
 -- start tags carry attributes, each after white space; there are no more where, after white space that may be there, `>` or `/` stands

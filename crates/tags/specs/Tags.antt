@@ -18,12 +18,12 @@ use Rattle.tags.specs.declared.Open.{Open}
 use Rattle.tags.specs.declared.Open.the-variants.{Full, Empty, Shut}
 
 -- the same attribute name twice is refused: e is where it stood before
-unfoldable pub fresh : End → ℕ → Step
-fresh (At v) w = Stuck
-fresh No w = Go w
+unfoldable pub unlessNamed : End → ℕ → Step
+unlessNamed (At v) w = Stuck
+unlessNamed No w = Go w
 
 unfoldable pub taken : List ℕ → ℕ → Attr → Step
-taken s a (Of j e v w) = fresh (attrNamed s (part s j (e - j)) a j) w
+taken s a (Of j e v w) = unlessNamed (attrNamed s (part s j (e - j)) a j) w
 taken s a (Last j) = Stop j
 taken s a None = Stuck
 

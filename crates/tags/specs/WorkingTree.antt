@@ -23,25 +23,25 @@ cells = 8192
 -- ---- ways
 
 -- bit d of the name w
-unfoldable pub turnOf : List ℕ → ℕ → ℕ
-turnOf w d = byteAt w (d / 8) / 2 ^ (d % 8) % 2
+unfoldable pub bitOf : List ℕ → ℕ → ℕ
+bitOf w d = byteAt w (d / 8) / 2 ^ (d % 8) % 2
 
 -- the cell by which the way of w goes on from node k, the d-th on it
 abbrev pub cellOf : List ℕ → ℕ → ℕ → ℕ
-cellOf w d k = 4 * k + 2 + turnOf w d
+cellOf w d k = 4 * k + 2 + bitOf w d
 
-unfoldable pub nameOf : List ℕ → List ℕ → ℕ → List ℕ
-nameOf s t k = part s (getD t (4 * k) 0) (getD t (4 * k + 1) 0 - getD t (4 * k) 0)
+unfoldable pub nodeName : List ℕ → List ℕ → ℕ → List ℕ
+nodeName s t k = part s (getD t (4 * k) 0) (getD t (4 * k + 1) 0 - getD t (4 * k) 0)
 
 -- on to the node that the cell x holds, if it is not free
-unfoldable pub onward : ℕ → ℕ → (ℕ → End) → End
-onward zero x rest = At x
-onward (suc k) x rest = rest (suc k)
+unfoldable pub nodeOn : ℕ → ℕ → (ℕ → End) → End
+nodeOn zero x rest = At x
+nodeOn (suc k) x rest = rest (suc k)
 
 -- the free cell at which the way of w ends, from node k on and m nodes at most; No where a node has that name
 unfoldable pub wayFrom : List ℕ → List ℕ → List ℕ → ℕ → ℕ → ℕ → End
 wayFrom s t w zero d k = No
-wayFrom s t w (suc m) d k = pick (same (nameOf s t k) w) No (onward (getD t (cellOf w d k) 0) (cellOf w d k) (wayFrom s t w m (d + 1)))
+wayFrom s t w (suc m) d k = pick (same (nodeName s t k) w) No (nodeOn (getD t (cellOf w d k) 0) (cellOf w d k) (wayFrom s t w m (d + 1)))
 
 abbrev pub way : List ℕ → List ℕ → List ℕ → End
 way s t w = wayFrom s t w (length t) 0 0
@@ -49,7 +49,7 @@ way s t w = wayFrom s t w (length t) 0 0
 -- ---- trees
 
 -- n nodes, whose names stand in s; the first has none, and ways go on to later ones
-pub record Tree (s t : List ℕ) (n : ℕ) : Type 0 where
+pub record NameTree (s t : List ℕ) (n : ℕ) : Type 0 where
   pub some : 0 < n
   pub fits : n ≤ nodes
   pub long : length t ≡ cells
@@ -69,9 +69,9 @@ pub record Grown (s t u : List ℕ) (j e n : ℕ) : Type 0 where
   pub free : way s t (part s j (e - j)) ≡ At cell
   pub made : u ≡ hung t cell n j e
 
-abbrev pub Added : List ℕ → List ℕ → List ℕ → ℕ → ℕ → ℕ → Bool → Type 0
-Added s t u j e n true = Grown s t u j e n
-Added s t u j e n false = way s t (part s j (e - j)) ≡ No
+abbrev pub NameAdded : List ℕ → List ℕ → List ℕ → ℕ → ℕ → ℕ → Bool → Type 0
+NameAdded s t u j e n true = Grown s t u j e n
+NameAdded s t u j e n false = way s t (part s j (e - j)) ≡ No
 
 -- ---- attributes whose names no node has
 

@@ -8,9 +8,9 @@ ghost use Prim.Native.Nat.{_+_, _*_, _-_, _≤_, _<_};
 ghost use lib.ListN.{length, getD, set};
 ghost use Rattle.octets.specs.Bytes.{part, same};
 ghost use Rattle.pieces.specs.Walk.{walkAt};
-ghost use Rattle.tags.specs.Attributes.{bitAt, valueAt, decodedAt, equalled, attrAt, seekAt, attrNamed};
+ghost use Rattle.tags.specs.Attributes.{bitAt, quotedAt, decodedAt, equalled, attrAt, seekAt, attrNamed};
 ghost use Rattle.tags.specs.Tags.{takeAt, tailAt, openAt, closeAt};
-ghost use Rattle.tags.specs.WorkingTree.{nodes, cells, turnOf, way, Tree, Added, lookAt};
+ghost use Rattle.tags.specs.WorkingTree.{nodes, cells, bitOf, way, NameTree, NameAdded, lookAt};
 
 // An attribute: where its name begins and ends, where its value begins, and where that ends. Or where the attributes end.
 pub enum Attr {
@@ -60,7 +60,7 @@ fn quoted(s: &[u8], q: u8, at: usize) -> End
 }
 
 fn value(s: &[u8], at: usize) -> End
-    ensures { λ r. ⌜ r ≡ valueAt (now (s .entry)) at ⌝ }
+    ensures { λ r. ⌜ r ≡ quotedAt (now (s .entry)) at ⌝ }
 {
     let q = octets::byte(s, at);
     if q == 34 {
@@ -243,14 +243,14 @@ fn put_cell(t: &mut [u16; CELLS], x: usize, v: usize)
 
 // Bit d of the name w.
 fn turn(w: &[u8], d: usize) -> usize
-    ensures { λ r. ⌜ r ≡ turnOf (now (w .entry)) d ⌝ }
+    ensures { λ r. ⌜ r ≡ bitOf (now (w .entry)) d ⌝ }
 {
     ((octets::byte(w, d / 8) >> (d % 8)) % 2) as usize
 }
 
 // The free cell at which the way of w ends, if no node has that name.
 fn place(s: &[u8], w: &[u8], t: &[u16; CELLS]) -> End
-    requires { ⌜ Tree (now s) (now t) nodes ⌝ }
+    requires { ⌜ NameTree (now s) (now t) nodes ⌝ }
     ensures { λ r. ⌜ r ≡ way (now (s .entry)) (now (t .entry)) (now (w .entry)) ⌝ }
 {
     let mut k: usize = 0;
@@ -277,8 +277,8 @@ fn add(s: &[u8], j: usize, e: usize, t: &mut [u16; CELLS], n: usize) -> bool
     requires { ⌜ e ≤ length (now s) ⌝ }
     requires { ⌜ length (now s) < 65536 ⌝ }
     requires { ⌜ n < nodes ⌝ }
-    requires { ⌜ Tree (now s) (now t) n ⌝ }
-    ensures { λ r. ⌜ Added (now (s .entry)) (now (t .entry)) (now (t .exit)) j e n r ⌝ }
+    requires { ⌜ NameTree (now s) (now t) n ⌝ }
+    ensures { λ r. ⌜ NameAdded (now (s .entry)) (now (t .entry)) (now (t .exit)) j e n r ⌝ }
 {
     let p = place(s, &s[j..e], t);
     match p {
@@ -293,7 +293,7 @@ fn add(s: &[u8], j: usize, e: usize, t: &mut [u16; CELLS], n: usize) -> bool
 }
 
 fn look(s: &[u8], t: &[u16; CELLS], i: usize) -> Step
-    requires { ⌜ Tree (now s) (now t) nodes ⌝ }
+    requires { ⌜ NameTree (now s) (now t) nodes ⌝ }
     ensures { λ r. ⌜ r ≡ lookAt (now (s .entry)) (now (t .entry)) i ⌝ }
 {
     let x = attribute(s, i);
@@ -313,7 +313,7 @@ fn look(s: &[u8], t: &[u16; CELLS], i: usize) -> Step
 // Where the attributes end that follow `at`, if no node has the name of one.
 fn apart(s: &[u8], t: &[u16; CELLS], at: usize) -> End
     requires { ⌜ at ≤ length (now s) ⌝ }
-    requires { ⌜ Tree (now s) (now t) nodes ⌝ }
+    requires { ⌜ NameTree (now s) (now t) nodes ⌝ }
     ensures { λ r. ⌜ r ≡ walkAt (lookAt (now (s .entry)) (now (t .entry))) (now (s .entry)) at ⌝ }
 {
     let mut i = at;

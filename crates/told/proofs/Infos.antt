@@ -18,17 +18,17 @@ use Rattle.octets.proofs.Sames.{same-is}
 use Rattle.markup.specs.Tree.{Forest}
 use Rattle.values.specs.Value.{valueAt}
 use Rattle.values.proofs.Steps.{value-past}
-use Rattle.reads.specs.WorkingLeaves.{blank, found, soundOf, noInfo}
+use Rattle.reads.specs.WorkingLeaves.{noLeaf, found, soundOf, noInfo}
 use Rattle.reads.specs.WorkingSteps.{says, eventStep, parameterStep, audioOf, isAudio, audioStep}
 use Rattle.reads.specs.declared.Leaf.{Leaf}
 use Rattle.reads.specs.declared.Events.{Events}
 use Rattle.reads.specs.declared.Parameters.{Parameters}
 use Rattle.reads.specs.declared.Audio.{Audio}
 use Rattle.gather.specs.Read.{Element, named}
-use Rattle.gather.specs.WorkingRead.{leafIn, event, parameter, resource, infoOf}
+use Rattle.gather.specs.WorkingRead.{leafIn, withEvent, withParameter, withResource, infoOf}
 use Rattle.leaves.proofs.Reals.{AllReal}
 use Rattle.leaves.proofs.Places.{named-real}
-use Rattle.told.specs.Values.{isNone, passing, firstOf, is, Pair, pairOf, eventCodes, parameters, valuesNamed, pairSound, resourceSound}
+use Rattle.told.specs.Values.{isNone, passing, firstValue, is, Pair, pairOf, eventCodes, parameters, valuesNamed, pairSound, resourceSound}
 use Rattle.told.specs.Values.{audioNumber, suitable, Choice, choiceOf, audioIn}
 use Rattle.told.proofs.Folds.{passing-last, values-last, pick-of, step-fault, fold-fault, fold-sound}
 use Rattle.told.proofs.Leaves.{found-count, found-value, leaf-sound, leaf-value, pair-sound}
@@ -38,9 +38,9 @@ use Rattle.told.proofs.Leaves.{found-count, found-value, leaf-sound, le
 -- a leaf found by name, and the values of that name
 pub record FoundTells (s : List ℕ) (l : Leaf) (vs : List (List ℕ)) : Type 0 where
   pub count : l .count ≡ min 2 (length vs)
-  pub value : valueAt s (l .at) ≡ firstOf vs
+  pub value : valueAt s (l .at) ≡ firstValue vs
 
-none-found : (s : List ℕ) → FoundTells s (blank (length s)) []
+none-found : (s : List ℕ) → FoundTells s (noLeaf (length s)) []
 none-found s = record { count = refl; value = value-past s (length s) (omega arith) }
 
 -- one pair more, its name at i and its value at j: found where it has the name
@@ -90,7 +90,7 @@ module _ (s p : List ℕ) where
 
   -- ---- eventCode
 
-  event-fault : (x : Events) (e : Element) → AllReal s (e .holds) → event s p x e .fault ≡ pick (pairSound s p e) (x .fault) true
+  event-fault : (x : Events) (e : Element) → AllReal s (e .holds) → withEvent s p x e .fault ≡ pick (pairSound s p e) (x .fault) true
   unfolding eventStep
   event-fault x e a =
       step-fault (λ (y : Events). y .fault) _ (pairSound s p e) x _ _ (pair-sound s p e a)
@@ -98,21 +98,21 @@ module _ (s p : List ℕ) where
       refl
 
   event-same : (x : Events) (e : Element) → AllReal s (e .holds) → pairSound s p e ≡ true
-      → event s p x e .same ≡ pick (names e "SAME") (found (x .same) (valueFrom e)) (x .same)
+      → withEvent s p x e .same ≡ pick (names e "SAME") (found (x .same) (valueFrom e)) (x .same)
   unfolding eventStep
   event-same x e a o = rw (pair-sound s p e a, o) (pick-of (λ (y : Events). y .same) (names e "SAME") _ _)
 
   pub events-fault : (t : Forest) → AllReal s t → infoOf s p t .events .fault ≡ not (every (pairSound s p) (named s p "eventCode" t))
   unfolding infoOf
   events-fault t r =
-      fold-fault s (λ (x : Events). x .fault) (event s p) (pairSound s p) event-fault
+      fold-fault s (λ (x : Events). x .fault) (withEvent s p) (pairSound s p) event-fault
       (named s p "eventCode" t) (named-real s p "eventCode" t r) (noInfo (length s) .events) refl
 
   pub events-tell : (t : Forest) → AllReal s t → every (pairSound s p) (named s p "eventCode" t) ≡ true
       → FoundTells s (infoOf s p t .events .same) (valuesNamed "SAME" (eventCodes s p t))
   unfolding infoOf
   events-tell t r o =
-      fold-sound s (λ (x : Events) (ds : List Element). FoundTells s (x .same) (valuesNamed "SAME" (map pair ds))) (event s p) (pairSound s p)
+      fold-sound s (λ (x : Events) (ds : List Element). FoundTells s (x .same) (valuesNamed "SAME" (map pair ds))) (withEvent s p) (pairSound s p)
       (λ x ds e a o h. rw (event-same x e a o) (found-tells "SAME" (x .same) ds e a h))
       (named s p "eventCode" t) (named-real s p "eventCode" t r) o (noInfo (length s) .events) (none-found s)
 
@@ -159,12 +159,12 @@ module _ (s p : List ℕ) where
       (one-text v (bytes "EAS-ORG") (bytes "EAS-Must-Carry") refl)
       (one-text v (bytes "EASText") (bytes "EAS-Must-Carry") refl)
 
-  parameter-fault : (x : Parameters) (e : Element) → AllReal s (e .holds) → parameter s p x e .fault ≡ pick (pairSound s p e) (x .fault) true
+  parameter-fault : (x : Parameters) (e : Element) → AllReal s (e .holds) → withParameter s p x e .fault ≡ pick (pairSound s p e) (x .fault) true
   unfolding parameterStep
   parameter-fault x e a = step-fault (λ (y : Parameters). y .fault) _ (pairSound s p e) x _ _ (pair-sound s p e a) (by-each x e .fault) refl
 
   parameter-tells : (x : Parameters) (ds : List Element) (e : Element) → AllReal s (e .holds) → pairSound s p e ≡ true
-      → ParametersTell s x (map (pair s p) ds) → ParametersTell s (parameter s p x e) (map (pair s p) (ds ++ (e ∷ [])))
+      → ParametersTell s x (map (pair s p) ds) → ParametersTell s (withParameter s p x e) (map (pair s p) (ds ++ (e ∷ [])))
   unfolding parameterStep
   parameter-tells x ds e a o h =
       let q = by-each x e in
@@ -177,14 +177,14 @@ module _ (s p : List ℕ) where
   pub parameters-fault : (t : Forest) → AllReal s t → infoOf s p t .parameters .fault ≡ not (every (pairSound s p) (named s p "parameter" t))
   unfolding infoOf
   parameters-fault t r =
-      fold-fault s (λ (x : Parameters). x .fault) (parameter s p) (pairSound s p) parameter-fault
+      fold-fault s (λ (x : Parameters). x .fault) (withParameter s p) (pairSound s p) parameter-fault
       (named s p "parameter" t) (named-real s p "parameter" t r) (noInfo (length s) .parameters) refl
 
   pub parameters-tell : (t : Forest) → AllReal s t → every (pairSound s p) (named s p "parameter" t) ≡ true
       → ParametersTell s (infoOf s p t .parameters) (parameters s p t)
   unfolding infoOf
   parameters-tell t r o =
-      fold-sound s (λ (x : Parameters) (ds : List Element). ParametersTell s x (map (pair s p) ds)) (parameter s p) (pairSound s p) parameter-tells
+      fold-sound s (λ (x : Parameters) (ds : List Element). ParametersTell s x (map (pair s p) ds)) (withParameter s p) (pairSound s p) parameter-tells
       (named s p "parameter" t) (named-real s p "parameter" t r) o (noInfo (length s) .parameters)
       (record { originator = none-found s; text = none-found s; carry = none-found s })
 
@@ -224,7 +224,7 @@ module _ (s p : List ℕ) where
       → (soundOf (leafIn s p "mimeType" (e .holds)) && soundOf (leafIn s p "uri" (e .holds))) ≡ resourceSound s p e
   resource-sound e a = ap₂ (λ (b c : Bool). b && c) (leaf-sound s p "mimeType" (e .holds) a) (leaf-sound s p "uri" (e .holds) a)
 
-  resource-fault : (x : Audio) (e : Element) → AllReal s (e .holds) → resource s p x e .fault ≡ pick (resourceSound s p e) (x .fault) true
+  resource-fault : (x : Audio) (e : Element) → AllReal s (e .holds) → withResource s p x e .fault ≡ pick (resourceSound s p e) (x .fault) true
   unfolding audioStep
   resource-fault x e a =
       let here = isAudio s (leafIn s p "mimeType" (e .holds)) (leafIn s p "uri" (e .holds)) in
@@ -233,7 +233,7 @@ module _ (s p : List ℕ) where
       refl
 
   resource-chosen : (x : Audio) (ds : List Element) (e : Element) → AllReal s (e .holds) → resourceSound s p e ≡ true
-      → Chosen s x (passing suitable (map offer ds)) → Chosen s (resource s p x e) (passing suitable (map offer (ds ++ (e ∷ []))))
+      → Chosen s x (passing suitable (map offer ds)) → Chosen s (withResource s p x e) (passing suitable (map offer (ds ++ (e ∷ []))))
   unfolding audioStep audioOf
   resource-chosen x ds e a o h =
       let j = leafIn s p "uri" (e .holds) .at in
@@ -245,7 +245,7 @@ module _ (s p : List ℕ) where
   pub resources-fault : (t : Forest) → AllReal s t → infoOf s p t .audio .fault ≡ not (every (resourceSound s p) (named s p "resource" t))
   unfolding infoOf
   resources-fault t r =
-      fold-fault s (λ (x : Audio). x .fault) (resource s p) (resourceSound s p) resource-fault
+      fold-fault s (λ (x : Audio). x .fault) (withResource s p) (resourceSound s p) resource-fault
       (named s p "resource" t) (named-real s p "resource" t r) (noInfo (length s) .audio) refl
 
   pub audio-tells : (t : Forest) → AllReal s t → every (resourceSound s p) (named s p "resource" t) ≡ true
@@ -254,5 +254,5 @@ module _ (s p : List ℕ) where
   audio-tells t r o =
       let none = noInfo (length s) .audio in
       let h : Chosen s none [] = record { none = refl; tells = record { number = refl; uri = refl } } in
-      fold-sound s (λ (x : Audio) (ds : List Element). Chosen s x (passing suitable (map offer ds))) (resource s p) (resourceSound s p) resource-chosen
+      fold-sound s (λ (x : Audio) (ds : List Element). Chosen s x (passing suitable (map offer ds))) (withResource s p) (resourceSound s p) resource-chosen
       (named s p "resource" t) (named-real s p "resource" t r) o none h .tells

@@ -15,22 +15,22 @@ use Rattle.octets.specs.Bytes.{pick, every, holds}
 use Rattle.markup.specs.Tree.{Forest}
 use Rattle.values.specs.Value.{valueAt}
 use Rattle.values.proofs.Steps.{value-past}
-use Rattle.reads.specs.WorkingLeaves.{blank, found, soundOf, pairOk}
+use Rattle.reads.specs.WorkingLeaves.{noLeaf, found, soundOf, pairOk}
 use Rattle.reads.specs.declared.Leaf.{Leaf}
 use Rattle.gather.specs.Read.{Element, named, bare}
-use Rattle.gather.specs.WorkingRead.{placeIn, markedIf, added, leafIn}
+use Rattle.gather.specs.WorkingRead.{placeIn, markedIf, withLeaf, leafIn}
 use Rattle.message.specs.WorkingJudged.{onlyOf}
 use Rattle.leaves.specs.Leaf.{leafValue}
 use Rattle.leaves.proofs.Reals.{Real, AllReal}
 use Rattle.leaves.proofs.Places.{named-real}
-use Rattle.told.specs.Values.{isNone, firstOf, valueOf, holdNone, once, sound, pairSound}
+use Rattle.told.specs.Values.{isNone, firstValue, valueOf, holdNone, once, sound, pairSound}
 use Rattle.told.proofs.Folds.{every-last, fold-tells}
 
 -- as many of them as are counted, whether one holds an element, and the first one's value
 pub record LeafTells (s : List ℕ) (l : Leaf) (es : List Element) : Type 0 where
   pub count : l .count ≡ min 2 (length es)
   pub holds : l .holds ≡ not (holdNone es)
-  pub value : valueAt s (l .at) ≡ firstOf (map (λ (e : Element). leafValue s (e .holds)) es)
+  pub value : valueAt s (l .at) ≡ firstValue (map (λ (e : Element). leafValue s (e .holds)) es)
 
 -- ---- one more
 
@@ -43,20 +43,20 @@ found-count l i n h = go (eqb (l .count) 0) refl
     go false q = let z : l .count ≡ 0 → ⊥ = eqb-false (l .count) 0 q in omega arith
 
 pub found-value : (s : List ℕ) (l : Leaf) (i : ℕ) (vs : List (List ℕ)) (v : List ℕ) → l .count ≡ min 2 (length vs)
-    → valueAt s (l .at) ≡ firstOf vs → valueAt s i ≡ v → valueAt s (found l i .at) ≡ firstOf (vs ++ (v ∷ []))
+    → valueAt s (l .at) ≡ firstValue vs → valueAt s i ≡ v → valueAt s (found l i .at) ≡ firstValue (vs ++ (v ∷ []))
 found-value s l i [] v c h k = rw (eq-eqb (l .count) 0 (omega arith)) k
 found-value s l i (w ∷ vs) v c h k = rw (ne-eqb (l .count) 0 (omega arith)) h
 
 -- ---- the leaf of a name
 
 -- it is absent
-none-tell : (s : List ℕ) → LeafTells s (blank (length s)) []
+none-tell : (s : List ℕ) → LeafTells s (noLeaf (length s)) []
 unfolding every
 none-tell s = record { count = refl; holds = refl; value = value-past s (length s) (omega arith) }
 
 -- one element more
 added-tells : (s : List ℕ) (l : Leaf) (ds : List Element) (e : Element) → Real s (e .tag) (e .holds) → AllReal s (e .holds) → LeafTells s l ds
-    → LeafTells s (added s l e) (ds ++ (e ∷ []))
+    → LeafTells s (withLeaf s l e) (ds ++ (e ∷ []))
 added-tells s l ds e r a h = go (bare (e .holds)) refl
   where
     said : Element → List ℕ
@@ -76,7 +76,7 @@ added-tells s l ds e r a h = go (bare (e .holds)) refl
       value =
           found-value s m (placeIn s (e .tag)) (map said ds) (said e)
           (c ∙ h .count ∙ ap (min 2) (sym (length-map ds said))) (ap (valueAt s) i ∙ h .value) (r .value)
-          ∙ ap firstOf (sym (map-append said ds (e ∷ [])));
+          ∙ ap firstValue (sym (map-append said ds (e ∷ [])));
     }
 
     go : (b : Bool) → bare (e .holds) ≡ b → LeafTells s (found (markedIf (not b) l) (placeIn s (e .tag))) (ds ++ (e ∷ []))
@@ -84,7 +84,7 @@ added-tells s l ds e r a h = go (bare (e .holds)) refl
     go false q = are (markedIf true l) refl refl (rw (q, and-false (holdNone ds)))
 
 pub leaf-tells : (s p : List ℕ) (w : String) (t : Forest) → AllReal s t → LeafTells s (leafIn s p w t) (named s p w t)
-leaf-tells s p w t r = fold-tells s (LeafTells s) (added s) (added-tells s) (named s p w t) (named-real s p w t r) (blank (length s)) (none-tell s)
+leaf-tells s p w t r = fold-tells s (LeafTells s) (withLeaf s) (added-tells s) (named s p w t) (named-real s p w t r) (noLeaf (length s)) (none-tell s)
 
 -- ---- what is asked of it
 

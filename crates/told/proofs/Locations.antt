@@ -22,10 +22,10 @@ use Rattle.markup.specs.Tree.{Forest}
 use Rattle.values.specs.Value.{valueAt}
 use Rattle.values.specs.WorkingSteps.{sixDigits}
 use Rattle.reads.specs.WorkingLeaves.{noInfo}
-use Rattle.reads.specs.WorkingSteps.{placed, locationOf, locationStep}
+use Rattle.reads.specs.WorkingSteps.{withLocation, locationOf, locationStep}
 use Rattle.reads.specs.declared.Locations.{Locations}
 use Rattle.gather.specs.Read.{Element, named}
-use Rattle.gather.specs.WorkingRead.{leafIn, location, infoOf}
+use Rattle.gather.specs.WorkingRead.{leafIn, withGeocode, infoOf}
 use Rattle.leaves.proofs.Reals.{AllReal}
 use Rattle.leaves.proofs.Places.{Reals, named-real}
 use Rattle.leaves.proofs.Fits.{LocationsFit, location-fits, no-locations-fit, info-locations-fit}
@@ -67,8 +67,8 @@ codes-last vs v =
     ∙ ap (λ (cs : List ℕ). codes vs ++ cs) (pick-of (map value) (isSix v) (v ∷ []) [])
 
 -- one of six digits
-placed-more : (x : Locations) (v : ℕ) (cs : List ℕ) (ok : Bool) → LocationsFit x → FirstPlaced x cs ok → FirstPlaced (placed x v) (cs ++ (v ∷ [])) ok
-unfolding placed
+placed-more : (x : Locations) (v : ℕ) (cs : List ℕ) (ok : Bool) → LocationsFit x → FirstPlaced x cs ok → FirstPlaced (withLocation x v) (cs ++ (v ∷ [])) ok
+unfolding withLocation
 placed-more x v cs ok f h = either-way (λ (y : Locations). FirstPlaced y (cs ++ (v ∷ [])) ok) (leb 31 (x .count)) _ _ full room
   where
     one-more : length (cs ++ (v ∷ [])) ≡ length cs + 1
@@ -129,8 +129,8 @@ module _ (s p : List ℕ) where
   abbrev said : List Element → List (List ℕ)
   said ds = valuesNamed "SAME" (map (pair s p) ds)
 
-  location-fault : (x : Locations) (e : Element) → AllReal s (e .holds) → location s p x e .fault ≡ pick (pairSound s p e) (x .fault) true
-  unfolding locationStep placed
+  location-fault : (x : Locations) (e : Element) → AllReal s (e .holds) → withGeocode s p x e .fault ≡ pick (pairSound s p e) (x .fault) true
+  unfolding locationStep withLocation
   location-fault x e a =
       step-fault (λ (y : Locations). y .fault) _ (pairSound s p e) x _ _ (pair-sound s p e a)
       (either-way Kept (names s p e "SAME") _ _ (λ _. kept (sixDigits (valueAt s (leafIn s p "value" (e .holds) .at)))) (λ _. refl))
@@ -145,7 +145,7 @@ module _ (s p : List ℕ) where
 
   location-placed : (x : Locations) (ds : List Element) (e : Element) → AllReal s (e .holds) → pairSound s p e ≡ true → LocationsFit x
       → FirstPlaced x (codes (said ds)) (every isSix (said ds))
-      → FirstPlaced (location s p x e) (codes (said (ds ++ (e ∷ [])))) (every isSix (said (ds ++ (e ∷ []))))
+      → FirstPlaced (withGeocode s p x e) (codes (said (ds ++ (e ∷ [])))) (every isSix (said (ds ++ (e ∷ []))))
   unfolding locationStep
   location-placed x ds e a o f h =
       let n = leaf-value s p "valueName" (e .holds) a in
@@ -161,14 +161,14 @@ module _ (s p : List ℕ) where
       go false = rw (append-nil (said ds)) h
 
   -- the geocodes of all areas in one fold
-  one-fold : (t : Forest) → infoOf s p t .locations ≡ foldl (location s p) (noInfo (length s) .locations) (geocodesIn s p t)
+  one-fold : (t : Forest) → infoOf s p t .locations ≡ foldl (withGeocode s p) (noInfo (length s) .locations) (geocodesIn s p t)
   unfolding infoOf
-  one-fold t = fold-flat (location s p) (λ (e : Element). named s p "geocode" (e .holds)) (noInfo (length s) .locations) (named s p "area" t)
+  one-fold t = fold-flat (withGeocode s p) (λ (e : Element). named s p "geocode" (e .holds)) (noInfo (length s) .locations) (named s p "area" t)
 
   pub locations-fault : (t : Forest) → AllReal s t → infoOf s p t .locations .fault ≡ not (every (pairSound s p) (geocodesIn s p t))
   locations-fault t r =
       ap (λ (x : Locations). x .fault) (one-fold t)
-      ∙ fold-fault s (λ (x : Locations). x .fault) (location s p) (pairSound s p) location-fault
+      ∙ fold-fault s (λ (x : Locations). x .fault) (withGeocode s p) (pairSound s p) location-fault
       (geocodesIn s p t) (geocodes-real t r) (noInfo (length s) .locations) refl
 
   all-placed : (t : Forest) → AllReal s t → every (pairSound s p) (geocodesIn s p t) ≡ true
@@ -177,7 +177,7 @@ module _ (s p : List ℕ) where
   all-placed t r o =
       let none = noInfo (length s) .locations in
       rw (one-fold t) (
-      fold-sound s Both (location s p) (pairSound s p)
+      fold-sound s Both (withGeocode s p) (pairSound s p)
       (λ x ds e a o h. (location-fits s p x e (h .0), location-placed x ds e a o (h .0) (h .1)))
       (geocodesIn s p t) (geocodes-real t r) o none (no-locations-fit (length s), record { count = refl; first = refl; bad = refl })
       .1

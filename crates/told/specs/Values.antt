@@ -25,9 +25,9 @@ passing f [] = []
 passing f (x ∷ xs) = pick (f x) (x ∷ passing f xs) (passing f xs)
 
 -- the first; empty where there is none
-abbrev pub firstOf : List (List ℕ) → List ℕ
-firstOf [] = []
-firstOf (v ∷ vs) = v
+abbrev pub firstValue : List (List ℕ) → List ℕ
+firstValue [] = []
+firstValue (v ∷ vs) = v
 
 -- v is this text
 abbrev pub is : String → List ℕ → Bool
@@ -46,7 +46,7 @@ valuesOf s p w t = map (λ (e : Element). leafValue s (e .holds)) (named s p w t
 
 -- a leaf's value: that of the first element of its name
 abbrev pub valueOf : List ℕ → List ℕ → String → Forest → List ℕ
-valueOf s p w t = firstOf (valuesOf s p w t)
+valueOf s p w t = firstValue (valuesOf s p w t)
 
 abbrev pub holdNone : List Element → Bool
 holdNone es = every (λ (e : Element). bare (e .holds)) es

@@ -14,7 +14,7 @@ use Rattle.octets.specs.Bytes.{pick, every, same}
 use Rattle.octets.specs.Text.{bytes}
 use Rattle.markup.specs.Tree.{Forest}
 use Rattle.values.specs.Value.{valueAt}
-use Rattle.reads.specs.WorkingLeaves.{blank, noInfo}
+use Rattle.reads.specs.WorkingLeaves.{noLeaf, noInfo}
 use Rattle.reads.specs.Names.{infoInside, among, inside}
 use Rattle.reads.specs.WorkingSteps.{english}
 use Rattle.reads.specs.declared.Leaf as reads
@@ -24,12 +24,12 @@ use Rattle.reads.specs.declared.Kept.the-variants.{Nothing, First, Selected}
 use Rattle.reads.specs.declared.Context.{Context}
 use Rattle.reads.specs.declared.Context.the-variants as ctx
 use Rattle.gather.specs.Read.{Element, named, bare}
-use Rattle.gather.specs.WorkingRead.{placeIn, markedIf, added, leafIn, event, parameter, location, resource, area, infoOf}
+use Rattle.gather.specs.WorkingRead.{placeIn, markedIf, withLeaf, leafIn, withEvent, withParameter, withGeocode, withResource, withArea, infoOf}
 use Rattle.gather.specs.WorkingRead.{languageIn, fromEnglish, selection, selected, languagesOk, alertOf}
 use Rattle.leaves.proofs.Reals.{Real, AllReal}
 use Rattle.leaves.proofs.Places.{Reals, named-real}
 use Rattle.told.proofs.Alerts.{english-is}
-use Rattle.unread.specs.Kept.{Leaf, leafBy, leafy, inner, kindOf, keptIn, keptFrom}
+use Rattle.unread.specs.Kept.{KeptLeaf, leafBy, leafy, inner, kindOf, keptIn, keptFrom}
 use Rattle.unread.proofs.Alike.{both-ways, LeafAs, EventsAs, ParametersAs, AudioAs, InfoAs, AlertAs, blank-as, no-info-as, no-events-as}
 use Rattle.unread.proofs.Alike.{no-parameters-as, no-audio-as, marked-as, found-as, sound-as, english-as, event-as, parameter-as, location-as, audio-as}
 use Rattle.unread.proofs.Keeps.{leavesOf, nodesOf, inBy, leaves-kept, nodes-kept, afterInfo, leaves-from, infosFrom, nodes-from}
@@ -66,18 +66,18 @@ stays s p n e r h = ap (λ (b : Bool). pick b Selected n) (sym (english-is s p e
 module _ (s p r q : List ℕ) where
   -- ---- leaves
 
-  added-as : (l m : reads.Leaf) (d e : Element) → Stands s d → Stands r e → leafBy s d ≡ leafBy r e → LeafAs s r l m → LeafAs s r (added s l d) (added r m e)
+  added-as : (l m : reads.Leaf) (d e : Element) → Stands s d → Stands r e → leafBy s d ≡ leafBy r e → LeafAs s r l m → LeafAs s r (withLeaf s l d) (withLeaf r m e)
   added-as l m d e hs ks z h =
-      let v : valueAt s (placeIn s (d .tag)) ≡ valueAt r (placeIn r (e .tag)) = hs .0 .value ∙ ap (λ (x : Leaf). x .value) z ∙ sym (ks .0 .value) in
-      let b : not (bare (d .holds)) ≡ not (bare (e .holds)) = ap (λ (x : Leaf). x .holds) z in
+      let v : valueAt s (placeIn s (d .tag)) ≡ valueAt r (placeIn r (e .tag)) = hs .0 .value ∙ ap (λ (x : KeptLeaf). x .value) z ∙ sym (ks .0 .value) in
+      let b : not (bare (d .holds)) ≡ not (bare (e .holds)) = ap (λ (x : KeptLeaf). x .holds) z in
       let k : LeafAs s r (markedIf (not (bare (d .holds))) l) (markedIf (not (bare (e .holds))) m) = rw b (marked-as s r (not (bare (e .holds))) l m h) in
       found-as s r _ _ (placeIn s (d .tag)) (placeIn r (e .tag)) k v
 
   leaf-as : (w : String) (t u : Forest) → AllReal s t → AllReal r u → map (leafBy s) (named s p w t) ≡ map (leafBy r) (named r q w u) →
       LeafAs s r (leafIn s p w t) (leafIn r q w u)
   leaf-as w t u hs ks z =
-      fold-as s r (LeafAs s r) (added s) (added r) (leafBy s) (leafBy r) added-as (named s p w t) (named r q w u) (named-real s p w t hs)
-      (named-real r q w u ks) z (blank (length s)) (blank (length r)) (blank-as s r)
+      fold-as s r (LeafAs s r) (withLeaf s) (withLeaf r) (leafBy s) (leafBy r) added-as (named s p w t) (named r q w u) (named-real s p w t hs)
+      (named-real r q w u ks) z (noLeaf (length s)) (noLeaf (length r)) (blank-as s r)
 
   -- ---- an element of the context c, of which the same is kept
 
@@ -106,10 +106,10 @@ module _ (s p r q : List ℕ) where
   Same x y = x ≡ y
 
   area-as : (x y : Locations) (a b : Element) → Stands s a → Stands r b → inBy s p ctx.Area a ≡ inBy r q ctx.Area b → Same x y →
-      Same (area s p x a) (area r q y b)
+      Same (withArea s p x a) (withArea r q y b)
   unfolding inside among same bytes kindOf
   area-as x y a b hs ks z h =
-      nodes-in ctx.Area (a .holds) (b .holds) (hs .1) (ks .1) z ctx.Geocode "geocode" refl refl Same (location s p) (location r q)
+      nodes-in ctx.Area (a .holds) (b .holds) (hs .1) (ks .1) z ctx.Geocode "geocode" refl refl Same (withGeocode s p) (withGeocode r q)
       (λ x y a b hs ks z h. location-as s r _ _ _ _ (of-pair ctx.Geocode "valueName" refl a b hs ks z) (of-pair ctx.Geocode "value" refl a b hs ks z) x y h)
       x y h
 
@@ -121,16 +121,16 @@ module _ (s p r q : List ℕ) where
     senderName = leaf-in ctx.Info t u hs ks z "senderName" refl;
     description = leaf-in ctx.Info t u hs ks z "description" refl;
     instruction = leaf-in ctx.Info t u hs ks z "instruction" refl;
-    events = nodes-in ctx.Info t u hs ks z ctx.EventCode "eventCode" refl refl (EventsAs s r) (event s p) (event r q)
+    events = nodes-in ctx.Info t u hs ks z ctx.EventCode "eventCode" refl refl (EventsAs s r) (withEvent s p) (withEvent r q)
         (λ x y a b hs ks z h. event-as s r _ _ _ _ (of-pair ctx.EventCode "valueName" refl a b hs ks z) (of-pair ctx.EventCode "value" refl a b hs ks z) x y h)
         (noInfo (length s) .events) (noInfo (length r) .events) (no-events-as s r);
-    parameters = nodes-in ctx.Info t u hs ks z ctx.Parameter "parameter" refl refl (ParametersAs s r) (parameter s p) (parameter r q)
+    parameters = nodes-in ctx.Info t u hs ks z ctx.Parameter "parameter" refl refl (ParametersAs s r) (withParameter s p) (withParameter r q)
         (λ x y a b hs ks z h.
         parameter-as s r _ _ _ _ (of-pair ctx.Parameter "valueName" refl a b hs ks z) (of-pair ctx.Parameter "value" refl a b hs ks z) x y h)
         (noInfo (length s) .parameters) (noInfo (length r) .parameters) (no-parameters-as s r);
-    locations = nodes-in ctx.Info t u hs ks z ctx.Area "area" refl refl Same (area s p) (area r q) area-as
+    locations = nodes-in ctx.Info t u hs ks z ctx.Area "area" refl refl Same (withArea s p) (withArea r q) area-as
         (noInfo (length s) .locations) (noInfo (length r) .locations) refl;
-    audio = nodes-in ctx.Info t u hs ks z ctx.Resource "resource" refl refl (AudioAs s r) (resource s p) (resource r q)
+    audio = nodes-in ctx.Info t u hs ks z ctx.Resource "resource" refl refl (AudioAs s r) (withResource s p) (withResource r q)
         (λ x y a b hs ks z h. audio-as s r _ _ _ _ (of-pair ctx.Resource "mimeType" refl a b hs ks z) (of-pair ctx.Resource "uri" refl a b hs ks z) x y h)
         (noInfo (length s) .audio) (noInfo (length r) .audio) (no-audio-as s r);
   }

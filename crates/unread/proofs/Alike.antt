@@ -13,7 +13,7 @@ use Rattle.octets.specs.Bytes.{pick, same}
 use Rattle.octets.specs.Text.{bytes}
 use Rattle.values.specs.Value.{valueAt}
 use Rattle.values.proofs.Steps.{value-past}
-use Rattle.reads.specs.WorkingLeaves.{blank, marked, found, soundOf, pairOk, noInfo, fresh}
+use Rattle.reads.specs.WorkingLeaves.{noLeaf, marked, found, soundOf, pairOk, noInfo, nothingRead}
 use Rattle.reads.specs.WorkingSteps.{says, eventStep, parameterStep, locationStep, audioOf, isAudio, audioStep, english}
 use Rattle.reads.specs.declared.Leaf.{Leaf}
 use Rattle.reads.specs.declared.Events.{Events}
@@ -52,7 +52,7 @@ module _ (s r : List ℕ) where
     pub fault : x .fault ≡ y .fault
 
   abbrev pub InfoLeafAs : ℕ → Info → Info → Type 0
-  InfoLeafAs k i j = LeafAs (getD (i .leaf) k (blank 0)) (getD (j .leaf) k (blank 0))
+  InfoLeafAs k i j = LeafAs (getD (i .leaf) k (noLeaf 0)) (getD (j .leaf) k (noLeaf 0))
 
   pub record InfoAs (i j : Info) : Type 0 where
     pub language : InfoLeafAs 0 i j
@@ -66,7 +66,7 @@ module _ (s r : List ℕ) where
     pub audio : AudioAs (i .audio) (j .audio)
 
   abbrev pub AlertLeafAs : ℕ → Alert → Alert → Type 0
-  AlertLeafAs k a b = LeafAs (getD (a .leaf) k (blank 0)) (getD (b .leaf) k (blank 0))
+  AlertLeafAs k a b = LeafAs (getD (a .leaf) k (noLeaf 0)) (getD (b .leaf) k (noLeaf 0))
 
   pub record AlertAs (a b : Alert) : Type 0 where
     pub identifier : AlertLeafAs 0 a b
@@ -82,7 +82,7 @@ module _ (s r : List ℕ) where
 
   -- ---- nothing read
 
-  pub blank-as : LeafAs (blank (length s)) (blank (length r))
+  pub blank-as : LeafAs (noLeaf (length s)) (noLeaf (length r))
   blank-as = record { count = refl; value = value-past s (length s) (omega arith) ∙ sym (value-past r (length r) (omega arith)); holds = refl }
 
   pub no-events-as : EventsAs (noInfo (length s) .events) (noInfo (length r) .events)
@@ -107,7 +107,7 @@ module _ (s r : List ℕ) where
     audio = no-audio-as;
   }
 
-  pub fresh-as : AlertAs (fresh (length s) .alert) (fresh (length r) .alert)
+  pub fresh-as : AlertAs (nothingRead (length s) .alert) (nothingRead (length r) .alert)
   fresh-as = record {
     identifier = blank-as;
     sender = blank-as;

@@ -10,12 +10,12 @@ use Rattle.reads.specs.declared.Audio.{Audio}
 use Rattle.judgement.specs.WorkingJudged.{judgedOf}
 use Rattle.judgement.specs.declared.Judged.{Judged}
 use Rattle.convert.specs.WorkingConvert.{textIn, uriIn, alertGiven, outcomeOf, convertOf}
-use Rattle.offers.specs.WorkingRecords.{ownIn, headerIn, alertBy, recordsOf}
-use Rattle.offers.specs.Offer.{Offering}
-use Rattle.offers.specs.WorkingOffer.{offerOf}
+use Rattle.offers.specs.WorkingRecords.{ownIn, zeroFilledHeader, alertBy, recordsOf}
+use Rattle.offers.specs.Offer.{MessageOffering}
+use Rattle.offers.specs.WorkingOffer.{messageOffer}
 use Rattle.report.specs.Program.{programOf}
 use Rattle.demands.specs.Calls.{Calls, library}
-use Rattle.demands.specs.Runs.{Call, offers, handedOut}
+use Rattle.demands.specs.Runs.{BoardCall, offers, handedOut}
 use Rattle.unread.specs.Kept.{OnlyUnreadDiffers}
 use Rattle.unread.specs.Unread.{NothingUnreadMatters}
 use Rattle.unread.proofs.Alike.{AudioAs}
@@ -53,8 +53,8 @@ module _ (s r : List ℕ) where
         let a = h .message .alert in
         rw (h .message .sent, a .sender .value, a .identifier .value)
 
-    header-as : headerIn j ≡ headerIn k
-    unfolding headerIn
+    header-as : zeroFilledHeader j ≡ zeroFilledHeader k
+    unfolding zeroFilledHeader
     header-as = rw (h .body)
 
     left-as : alertBy s j ≡ alertBy r k
@@ -73,8 +73,8 @@ module _ (s r : List ℕ) where
     unfolding recordsOf
     same-records = rw (left-as (judgedOf s) (judgedOf r) h, h .number)
 
-    same-offering : (board : List ℕ) → offerOf board s ≡ offerOf board r
-    unfolding offerOf
+    same-offering : (board : List ℕ) → messageOffer board s ≡ messageOffer board r
+    unfolding messageOffer
     same-offering board = rw (same-records, h .number, h .field)
 
     pub same-program : (room : ℕ) → programOf room s ≡ programOf room r
@@ -85,6 +85,6 @@ pub nothing-unread-matters : NothingUnreadMatters library
 nothing-unread-matters = record { conversion-same = same-conversion; offering-same = same-offering }
 
 -- whatever offers and hand-outs follow, the same headers are handed out
-pub same-activations : (c : Calls) → NothingUnreadMatters c → (s r : List ℕ) → OnlyUnreadDiffers s r → (b : List ℕ) (cs : List Call) →
+pub same-activations : (c : Calls) → NothingUnreadMatters c → (s r : List ℕ) → OnlyUnreadDiffers s r → (b : List ℕ) (cs : List BoardCall) →
     handedOut c (offers s ∷ cs) b ≡ handedOut c (offers r ∷ cs) b
-same-activations c n s r d b cs = ap (λ (o : Offering). handedOut c cs (o .bytes)) (n .offering-same s r d b)
+same-activations c n s r d b cs = ap (λ (o : MessageOffering). handedOut c cs (o .bytes)) (n .offering-same s r d b)

@@ -17,7 +17,7 @@ use Rattle.judgement.proofs.judge.Reads as judge
 use Rattle.convert.specs.Convert.{Outcome, answerOf}
 use Rattle.convert.specs.declared.Converted.{Converted}
 use Rattle.convert.proofs.convert.Reads as convert
-use Rattle.offers.specs.Offer.{Offering}
+use Rattle.offers.specs.Offer.{MessageOffering}
 use Rattle.offers.specs.declared.Offered.{Offered}
 use Rattle.offers.proofs.offer.Reads as offer
 use Rattle.report.proofs.program.Reads as program
@@ -79,12 +79,12 @@ module _ (κs κs′ : Lifetimes 2) (m n : Lent) (d : OnlyUnreadDiffers (now m) 
   pub offer-same : (r r′ : Offered) →
       offer.Learnt κs (b, (m, tt)) r x → offer.Learnt κs′ (b, (n, tt)) r′ x′ → (r ≡ r′) × (now (x .0) ≡ now (x′ .0))
   offer-same r r′ p q =
-      (made (λ (o : Offering). o .answer) (p .0) offering-same (q .0), made (λ (o : Offering). o .bytes) (p .1 .0) offering-same (q .1 .0))
+      (made (λ (o : MessageOffering). o .answer) (p .0) offering-same (q .0), made (λ (o : MessageOffering). o .bytes) (p .1 .0) offering-same (q .1 .0))
 
   pub host-offer-same : (r r′ : ℕ) →
       host-offer.Learnt κs (b, (m, tt)) r x → host-offer.Learnt κs′ (b, (n, tt)) r′ x′ → (r ≡ r′) × (now (x .0) ≡ now (x′ .0))
   host-offer-same r r′ p q =
-      (made (λ (o : Offering). packedOffered (o .answer)) (p .0) offering-same (q .0), made (λ (o : Offering). o .bytes) (p .1) offering-same (q .1))
+      (made (λ (o : MessageOffering). packedOffered (o .answer)) (p .0) offering-same (q .0), made (λ (o : MessageOffering). o .bytes) (p .1) offering-same (q .1))
 
   pub program-same : (r r′ : ℕ) →
       program.Learnt κs (m, (b, tt)) r x → program.Learnt κs′ (n, (b, tt)) r′ x′ → (r ≡ r′) × (now (x .1 .0) ≡ now (x′ .1 .0))

@@ -9,7 +9,7 @@ use mathlib.Core.List.{List, _∷_}
 use Rattle.octets.specs.Text.{bytes}
 use Rattle.reads.specs.Names.{among, inside}
 use Rattle.demands.specs.Calls.{library}
-use Rattle.demands.specs.Runs.{Call, offers, handedOut}
+use Rattle.demands.specs.Runs.{BoardCall, offers, handedOut}
 use Rattle.demands.proofs.Opens.{computing}
 use Rattle.unread.specs.Kept.{kindOf, keptAs, keptIn, keptFrom, keptOf, OnlyUnreadDiffers}
 use Rattle.unread.proofs.Calls.{nothing-unread-matters, same-activations}
@@ -111,5 +111,5 @@ pub contact-line : OnlyUnreadDiffers sample changed
 contact-line = pairs .sender-asked
 
 -- a changed contact line alters no activation, on any board and whatever is called afterwards
-pub activations-unaltered : (b : List ℕ) (cs : List Call) → handedOut library (offers sample ∷ cs) b ≡ handedOut library (offers changed ∷ cs) b
+pub activations-unaltered : (b : List ℕ) (cs : List BoardCall) → handedOut library (offers sample ∷ cs) b ≡ handedOut library (offers changed ∷ cs) b
 activations-unaltered = same-activations library nothing-unread-matters sample changed contact-line

@@ -7,7 +7,7 @@ use mathlib.Core.List.{List}
 use lib.Dec.{eqb}
 use Rattle.parts.specs.Originator.{isKnown}
 use Rattle.reads.specs.declared.Leaf.{Leaf}
-use Rattle.message.specs.WorkingMessage.{messageOf}
+use Rattle.message.specs.WorkingMessage.{messageSays}
 use Rattle.message.specs.declared.Message.{Message}
 use Rattle.judgement.specs.WorkingRules.{infoIn, expiresIn, eventIs, originOf, located, secondsTo, quietOf}
 use Rattle.judgement.specs.WorkingJudged.{without, bodyWith, lasting, bodyIn, alerted, judgedBy, judgedOf}
@@ -79,4 +79,4 @@ module _ (s r : List ℕ) where
         (record { number = h .number; field = h .field; quiet = refl; body = refl; message = h })
 
 pub judged-as : (s r : List ℕ) → OnlyUnreadDiffers s r → JudgedAs s r (judgedOf s) (judgedOf r)
-judged-as s r e = judged-by-as s r (messageOf s) (messageOf r) (message-as s r e)
+judged-as s r e = judged-by-as s r (messageSays s) (messageSays r) (message-as s r e)

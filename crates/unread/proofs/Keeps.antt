@@ -17,23 +17,23 @@ use Rattle.reads.specs.declared.Context.{Context}
 use Rattle.reads.specs.declared.Context.the-variants as ctx
 use Rattle.gather.specs.Read.{Element, nameIn, keep, named}
 use Rattle.told.specs.Values.{isEnglish}
-use Rattle.unread.specs.Kept.{Leaf, leafBy, Kept, done, leaf, node, Kind, skipped, leafy, inner, kindOf, keptAs, keptIn, nextTo, keptFrom}
+use Rattle.unread.specs.Kept.{KeptLeaf, leafBy, KeptTree, done, leaf, node, Kind, skipped, leafy, inner, kindOf, keptAs, keptIn, nextTo, keptFrom}
 
 -- ---- by name, in what is kept
 
 -- the leaves of this name
-abbrev pub leavesOf : String → Kept → List Leaf
+abbrev pub leavesOf : String → KeptTree → List KeptLeaf
 leavesOf w done = []
 leavesOf w (leaf n l rest) = pick (same n (bytes w)) (l ∷ leavesOf w rest) (leavesOf w rest)
 leavesOf w (node n t rest) = leavesOf w rest
 
 -- the other elements of this name: what is kept of what each holds
-abbrev pub nodesOf : String → Kept → List Kept
+abbrev pub nodesOf : String → KeptTree → List KeptTree
 nodesOf w done = []
 nodesOf w (leaf n l rest) = nodesOf w rest
 nodesOf w (node n t rest) = pick (same n (bytes w)) (t ∷ nodesOf w rest) (nodesOf w rest)
 
-module _ (w : String) (n : List ℕ) (l : Leaf) (t rest : Kept) where
+module _ (w : String) (n : List ℕ) (l : KeptLeaf) (t rest : KeptTree) where
   -- an element of another name
   other-leaf : (k : Kind) → same n (bytes w) ≡ false → leavesOf w (keptAs k n l t rest) ≡ leavesOf w rest
   unfolding keptAs
@@ -59,7 +59,7 @@ module _ (w : String) (n : List ℕ) (l : Leaf) (t rest : Kept) where
   leaf-step s x xs q k i f = go (same n (bytes w)) refl
     where
       go : (b : Bool) → same n (bytes w) ≡ b → map (leafBy s) (keep b x xs) ≡ leavesOf w (keptAs k n l t rest)
-      go true e = rw (i (same-is n (bytes w) e), e) (ap₂ (λ (y : Leaf) (ys : List Leaf). y ∷ ys) q f)
+      go true e = rw (i (same-is n (bytes w) e), e) (ap₂ (λ (y : KeptLeaf) (ys : List KeptLeaf). y ∷ ys) q f)
       go false e = f ∙ sym (other-leaf k e)
 
 abbrev el : Tag → Forest → Element
@@ -79,7 +79,7 @@ module _ (s p : List ℕ) where
       (λ e. ap (λ (n : List ℕ). kindOf (inside Nothing c n)) e ∙ i) (leaves-kept c w i rest)
 
   -- what is kept of what an element of the context d holds
-  abbrev pub inBy : Context → Element → Kept
+  abbrev pub inBy : Context → Element → KeptTree
   inBy d e = keptIn s p d (e .holds)
 
   -- the elements of a name that is read otherwise there
@@ -101,7 +101,7 @@ module _ (s p : List ℕ) where
           ≡ nodesOf w (keptAs (kindOf x) n (leafBy s (el g kids)) (keptIn s p x kids) (keptIn s p c rest))
       go true e f =
           let q : x ≡ d = ap (inside Nothing c) (same-is n (bytes w) e) ∙ i in
-          ap₂ (λ (a : Kept) (y : List Kept). a ∷ y) (ap (λ (z : Context). keptIn s p z kids) (sym q)) f
+          ap₂ (λ (a : KeptTree) (y : List KeptTree). a ∷ y) (ap (λ (z : Context). keptIn s p z kids) (sym q)) f
           ∙ sym (this-node w n _ _ _ (kindOf x) (ap kindOf q ∙ j) e)
       go false e f = f ∙ sym (other-node w n _ _ _ (kindOf x) e)
 
@@ -122,7 +122,7 @@ module _ (s p : List ℕ) where
   afterInfo n e = pick (isEnglish s p e) Selected n
 
   -- what is kept of infos, one after the other
-  abbrev pub infosFrom : infos.Kept → List Element → List Kept
+  abbrev pub infosFrom : infos.Kept → List Element → List KeptTree
   infosFrom n [] = []
   infosFrom n (e ∷ es) = keptIn s p (infoInside n) (e .holds) ∷ infosFrom (afterInfo n e) es
 
@@ -155,7 +155,7 @@ module _ (s p : List ℕ) where
       go true e f =
           let q : d ≡ infoInside n = ap (inside n ctx.Alert) (same-is w (bytes "info") e) ∙ info-at n in
           let m : nextTo s p n (el g kids) ≡ afterInfo n (el g kids) = ap (λ (b : Bool). pick (b && isEnglish s p (el g kids)) Selected n) e in
-          ap₂ (λ (a : Kept) (y : List Kept). a ∷ y) (ap (λ (z : Context). keptIn s p z kids) (sym q))
+          ap₂ (λ (a : KeptTree) (y : List KeptTree). a ∷ y) (ap (λ (z : Context). keptIn s p z kids) (sym q))
           (f (afterInfo n (el g kids)) ∙ ap (λ (z : infos.Kept). nodesOf "info" (keptFrom s p z rest)) (sym m))
           ∙ sym (this-node "info" w _ _ _ (kindOf d) (ap kindOf q ∙ info-inner n) e)
       go false e f =

@@ -14,8 +14,8 @@ use Rattle.reads.specs.declared.Info as read-info
 use Rattle.reads.specs.declared.Alert as read-alert
 use Rattle.message.specs.Root.{prefixOf, rootOk}
 use Rattle.reads.specs.WorkingLeaves.{sentLeaf}
-use Rattle.message.specs.WorkingJudged.{onlyOf, identified, timed, valued, typed, statusOf, msgTypeOf, scopeOf, infoOk, fieldOf, referenced, numberWith, numberOf}
-use Rattle.message.specs.WorkingMessage.{refusedAs, judged, passed, ofRoot, messageOf}
+use Rattle.message.specs.WorkingJudged.{onlyOf, identified, timed, placeAmong, typed, statusOf, msgTypeOf, scopeOf, infoOk, fieldOf, referenced, numberWith, messageNumber}
+use Rattle.message.specs.WorkingMessage.{refusedAs, judged, judgedRoot, ofRoot, messageSays}
 use Rattle.message.specs.declared.Message.{Message}
 use Rattle.leaves.proofs.Reals.{leaf-is}
 use Rattle.demands.specs.Numbers.{isRead, rootIs}
@@ -45,8 +45,8 @@ module _ (s r : List ℕ) where
   unfolding timed
   timed-as l m h = rw (only-as l m h, h .value)
 
-  valued-as : (ws : List String) (l m : read-leaf.Leaf) → LeafAs s r l m → valued s ws l ≡ valued r ws m
-  unfolding valued
+  valued-as : (ws : List String) (l m : read-leaf.Leaf) → LeafAs s r l m → placeAmong s ws l ≡ placeAmong r ws m
+  unfolding placeAmong
   valued-as ws l m h = rw (only-as l m h, h .value)
 
   typed-as : (l m : read-leaf.Leaf) → LeafAs s r l m → typed s l ≡ typed r m
@@ -89,7 +89,7 @@ module _ (s r : List ℕ) where
     field-as : fieldOf s a ≡ fieldOf r b
     field-as = rw (identified-as _ _ (h .identifier), identified-as _ _ (h .sender), sent-as, status-as, msg-type-as, scope-as, h .fault, info-ok-as _ _ (h .info))
 
-    number-as : numberOf s a ≡ numberOf r b
+    number-as : messageNumber s a ≡ messageNumber r b
     unfolding numberWith
     number-as = rw (field-as, status-as, scope-as, msg-type-as, referenced-as _ _ (h .references))
 
@@ -102,8 +102,8 @@ module _ (s r : List ℕ) where
 
 -- ---- two messages
 
-pub message-as : (s r : List ℕ) → OnlyUnreadDiffers s r → MessageAs s r (messageOf s) (messageOf r)
-unfolding messageOf ofRoot passed keptOf
+pub message-as : (s r : List ℕ) → OnlyUnreadDiffers s r → MessageAs s r (messageSays s) (messageSays r)
+unfolding messageSays ofRoot judgedRoot keptOf
 message-as s r d = rw (d .length-s, d .length-r) (go (docAt s) (docAt r) refl refl (d .subset-s) (d .subset-r) (d .root) (d .kept))
   where
     go : (x y : One) → docAt s ≡ x → docAt r ≡ y → isRead x ≡ true → isRead y ≡ true → rootIs s x ≡ rootIs r y → keptOf s x ≡ keptOf r y →

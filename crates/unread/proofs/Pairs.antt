@@ -12,7 +12,7 @@ use Rattle.octets.proofs.Tests.{and-left, and-right, each-of, every-of}
 use Rattle.markup.specs.Tree.{One}
 use Rattle.markup.specs.Document.{docAt}
 use Rattle.demands.specs.Numbers.{isRead, rootIs}
-use Rattle.unread.specs.Kept.{Kept, done, leaf, node, keptOf, OnlyUnreadDiffers}
+use Rattle.unread.specs.Kept.{KeptTree, done, leaf, node, keptOf, OnlyUnreadDiffers}
 
 -- ---- equal, as a test
 
@@ -20,7 +20,7 @@ unfoldable pub agree : Bool → Bool → Bool
 agree true b = b
 agree false b = not b
 
-unfoldable pub sameKept : Kept → Kept → Bool
+unfoldable pub sameKept : KeptTree → KeptTree → Bool
 sameKept done done = true
 sameKept done (leaf n l rest) = false
 sameKept done (node n t rest) = false
@@ -43,7 +43,7 @@ unfolding agree
 agree-self true = refl
 agree-self false = refl
 
-kept-is : (k l : Kept) → sameKept k l ≡ true → k ≡ l
+kept-is : (k l : KeptTree) → sameKept k l ≡ true → k ≡ l
 unfolding sameKept
 kept-is done done h = refl
 kept-is done (leaf n l rest) h = absurd (false≢true h)
@@ -67,7 +67,7 @@ kept-is (node n t rest) (node m u more) h =
     let r = kept-is rest more (and-right (sameKept t u) _ v) in
     λ i. node (p i) (q i) (r i)
 
-kept-self : (k : Kept) → sameKept k k ≡ true
+kept-self : (k : KeptTree) → sameKept k k ≡ true
 unfolding sameKept
 kept-self done = refl
 kept-self (leaf n l rest) = rw (same-refl n, same-refl (l .value), agree-self (l .holds)) (kept-self rest)

@@ -24,18 +24,18 @@ use Rattle.demands.specs.Numbers.{isRead, rootIs}
 -- ---- what is kept: a tree of names and values, without places, comments, attributes, and text outside leaves
 
 -- a leaf that is read: its value, decoded and collapsed, and whether it holds an element, which is a fault
-pub record Leaf : Type 0 where
+pub record KeptLeaf : Type 0 where
   pub value : List ℕ
   pub holds : Bool
 
 -- what is kept of what an element holds, in message order
-pub data Kept : Type 0 where
-  done : Kept
-  leaf : List ℕ → Leaf → Kept → Kept  -- a leaf that is read: its name without prefix; what is kept of it; what follows
-  node : List ℕ → Kept → Kept → Kept  -- another element that is read: its name; what is kept of what it holds; what follows
+pub data KeptTree : Type 0 where
+  done : KeptTree
+  leaf : List ℕ → KeptLeaf → KeptTree → KeptTree  -- a leaf that is read: its name without prefix; what is kept of it; what follows
+  node : List ℕ → KeptTree → KeptTree → KeptTree  -- another element that is read: its name; what is kept of what it holds; what follows
 
 -- what is kept of a leaf
-abbrev pub leafBy : List ℕ → Element → Leaf
+abbrev pub leafBy : List ℕ → Element → KeptLeaf
 leafBy s e = record { value = leafValue s (e .holds); holds = not (bare (e .holds)) }
 
 -- ---- what is taken out
@@ -62,13 +62,13 @@ kindOf ctx.Area = inner
 kindOf ctx.Geocode = inner
 
 -- an element of the name w before what follows; one that is skipped is taken out whole
-unfoldable pub keptAs : Kind → List ℕ → Leaf → Kept → Kept → Kept
+unfoldable pub keptAs : Kind → List ℕ → KeptLeaf → KeptTree → KeptTree → KeptTree
 keptAs skipped w l t rest = rest
 keptAs leafy w l t rest = leaf w l rest
 keptAs inner w l t rest = node w t rest
 
 -- what is kept of what an element of the context c holds; comments are not in the tree, and text that stands beside elements is not read
-unfoldable pub keptIn : List ℕ → List ℕ → Context → Forest → Kept
+unfoldable pub keptIn : List ℕ → List ℕ → Context → Forest → KeptTree
 keptIn s p c nil = done
 keptIn s p c (text i j rest) = keptIn s p c rest
 keptIn s p c (elem g kids rest) =
@@ -80,7 +80,7 @@ abbrev pub nextTo : List ℕ → List ℕ → infos.Kept → Element → infos.K
 nextTo s p n e = pick (same (nameIn s p (e .tag)) (bytes "info") && isEnglish s p e) Selected n
 
 -- what is kept of what the alert holds; in a later info every element but language is skipped
-unfoldable pub keptFrom : List ℕ → List ℕ → infos.Kept → Forest → Kept
+unfoldable pub keptFrom : List ℕ → List ℕ → infos.Kept → Forest → KeptTree
 keptFrom s p n nil = done
 keptFrom s p n (text i j rest) = keptFrom s p n rest
 keptFrom s p n (elem g kids rest) =
@@ -90,7 +90,7 @@ keptFrom s p n (elem g kids rest) =
     (keptFrom s p (nextTo s p n (record { tag = g; holds = kids })) rest)
 
 -- what is kept of a message's document
-unfoldable pub keptOf : List ℕ → One → Kept
+unfoldable pub keptOf : List ℕ → One → KeptTree
 keptOf s none = done
 keptOf s (one g kids e) = keptFrom s (prefixOf s (g .from + 1) (g .name)) Nothing kids
 

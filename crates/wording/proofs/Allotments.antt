@@ -13,7 +13,7 @@ use borrow.Author.Tests.{leb-true, leb-false, eqb-true}
 use Rattle.octets.proofs.Tests.{either-way}
 use Rattle.octets.specs.Bytes.{same}
 use Rattle.wording.specs.WorkingGiven.{givenTo}
-use Rattle.wording.specs.Text.{Shares, after, one, roomOf, sharesOf, partsOf}
+use Rattle.wording.specs.Text.{Shares, afterSpace, one, roomOf, sharesOf, lastParts}
 use Rattle.wording.proofs.Cuts.{one-none, one-some, cut-same, part, part-none, part-long}
 
 -- the greater of A − i and h
@@ -118,7 +118,7 @@ part-same : (g k : ℕ) (v : List ℕ) → (0 < length v → min g (length v) �
 part-same g k v e = go (decLt 0 (length v))
   where
     go : Dec (0 < length v) → part g v ≡ part k v
-    go (yes h) = ap after (cut-same g k v (e h))
+    go (yes h) = ap afterSpace (cut-same g k v (e h))
     go (no h) = part-none g v (omega arith) ∙ sym (part-none k v (omega arith))
 
 -- description may take g and ends at e
@@ -139,8 +139,8 @@ module _ (n : ℕ) (d i : List ℕ) (h : n ≤ 1792) (g e : ℕ) (p : g ≡ give
       let t : min g (length d) ≡ min (upTo (roomOf n d i) (length i)) (length d) = rw p (sym (takes n d i)) in
       rest n (one d) (length i) (roomOf n d i) (min g (length d)) e a s end-is (rw t (min-le (upTo (roomOf n d i) (length i)) (length d)))
 
-  pub parts-short : partsOf n d i ≡ part g d ++ part (1799 - e) i
-  unfolding partsOf
+  pub parts-short : lastParts n d i ≡ part g d ++ part (1799 - e) i
+  unfolding lastParts
   parts-short =
       let s = shares-short (roomOf n d i) (length d) (length i) in
       let t : min (upTo (roomOf n d i) (length i)) (length d) ≡ min g (length d) = rw p (takes n d i) in
@@ -157,9 +157,9 @@ module _ (n : ℕ) (d i : List ℕ) (h : n ≤ 1792) (g e : ℕ) (p : g ≡ give
   pub instruction-room : 0 < length i → e + length (part (1799 - e) i) ≤ 1800
   instruction-room k = omega (arith, part-long (1799 - e) i (instruction-fair k), one-some i k, left k .within)
 
-  both-end : n + length (partsOf n d i) ≡ e + length (part (1799 - e) i)
+  both-end : n + length (lastParts n d i) ≡ e + length (part (1799 - e) i)
   both-end =
-      let all : length (partsOf n d i) ≡ length (part g d) + length (part (1799 - e) i) = ap length parts-short ∙ length-append (part g d) (part (1799 - e) i) in
+      let all : length (lastParts n d i) ≡ length (part g d) + length (part (1799 - e) i) = ap length parts-short ∙ length-append (part g d) (part (1799 - e) i) in
       omega arith
 
   both-le : Dec (0 < length i) → e + length (part (1799 - e) i) ≤ 1800
@@ -180,8 +180,8 @@ module _ (n : ℕ) (d i : List ℕ) (h : n ≤ 1792) (g e : ℕ) (p : g ≡ give
       omega (arith, ap length (part-none (1799 - e) i none), end-is)
 
 module _ (n : ℕ) (d i : List ℕ) (h : n ≤ 1792) where
-  pub parts-le : n + length (partsOf n d i) ≤ 1800
+  pub parts-le : n + length (lastParts n d i) ≤ 1800
   parts-le = rw (both-end n d i h _ _ refl refl) (both-le n d i h _ _ refl refl (decLt 0 (length i)))
 
-  pub parts-full : roomOf n d i < length d + length i → n + length (partsOf n d i) ≡ 1800
+  pub parts-full : roomOf n d i < length d + length i → n + length (lastParts n d i) ≡ 1800
   parts-full f = both-end n d i h _ _ refl refl ∙ both-full n d i h _ _ refl refl (decLt 0 (length i)) f

@@ -15,7 +15,7 @@ use Rattle.octets.proofs.Sames.{same-is}
 use Rattle.octets.specs.Bytes.{same}
 use Rattle.octets.specs.Text.{bytes}
 use Rattle.sentence.proofs.Puts.{Put, first, put-all}
-use Rattle.wording.specs.Text.{empty, after, one, cut}
+use Rattle.wording.specs.Text.{empty, afterSpace, one, cut}
 
 -- ---- empty or not
 
@@ -27,8 +27,8 @@ unfolding same
 some-long [] h = let z : _≡_ {A = ℕ} 0 1 = cc in absurd (omega arith)
 some-long (c ∷ v) h = omega arith
 
-pub after-some : (v : List ℕ) → 0 < length v → after v ≡ 32 ∷ v
-unfolding after same
+pub after-some : (v : List ℕ) → 0 < length v → afterSpace v ≡ 32 ∷ v
+unfolding afterSpace same
 after-some [] h = absurd (omega arith)
 after-some (c ∷ v) h = refl
 
@@ -64,20 +64,20 @@ cut-same g k v e = go (decLt g (length v))
 
 -- what is put of a value that is to have at most g characters
 abbrev pub part : ℕ → List ℕ → List ℕ
-part g v = after (cut g v)
+part g v = afterSpace (cut g v)
 
 pub part-none : (g : ℕ) (v : List ℕ) → length v ≡ 0 → part g v ≡ []
-unfolding after same
-part-none g [] h = ap after (cut-fits g [] (omega arith))
+unfolding afterSpace same
+part-none g [] h = ap afterSpace (cut-fits g [] (omega arith))
 part-none g (c ∷ v) h = absurd (omega arith)
 
 part-whole : (g : ℕ) (v : List ℕ) → 0 < length v → length v ≤ g → part g v ≡ 32 ∷ take g v
-part-whole g v k h = ap after (cut-fits g v h) ∙ after-some v k ∙ ap (λ (x : List ℕ). 32 ∷ x) (sym (take-all g v h))
+part-whole g v k h = ap afterSpace (cut-fits g v h) ∙ after-some v k ∙ ap (λ (x : List ℕ). 32 ∷ x) (sym (take-all g v h))
 
 part-cut : (g : ℕ) (v : List ℕ) → g < length v → part g v ≡ (32 ∷ take (g - 3) v) ++ bytes "***"
 unfolding bytes
 part-cut g v h =
-    ap after (cut-cuts g v h) ∙ after-some (take (g - 3) v ++ bytes "***") (omega (arith, length-append (take (g - 3) v) (bytes "***")))
+    ap afterSpace (cut-cuts g v h) ∙ after-some (take (g - 3) v ++ bytes "***") (omega (arith, length-append (take (g - 3) v) (bytes "***")))
 
 pub part-long : (g : ℕ) (v : List ℕ) → (g < length v → 3 ≤ g) → length (part g v) ≡ one v + min g (length v)
 unfolding bytes

@@ -13,7 +13,7 @@ use Rattle.octets.proofs.Tests.{either-way}
 use Rattle.octets.specs.Bytes.{same}
 use Rattle.octets.specs.Text.{bytes}
 use Rattle.sentence.proofs.Puts.{put-all}
-use Rattle.wording.specs.Text.{most, plain, empty, after, phrase, roomOf, partsOf, textOf}
+use Rattle.wording.specs.Text.{most, plain, empty, afterSpace, phrase, roomOf, lastParts, textOf}
 use Rattle.wording.proofs.Cuts.{some-long, after-some}
 use Rattle.wording.proofs.Allotments.{parts-le, parts-full}
 
@@ -23,19 +23,19 @@ put-start r vs s = let p = put-all r vs s in (omega (arith, p .0), p .1)
 
 -- ---- the sender's phrase
 
-pub phrase-none : (v : List ℕ) → empty v ≡ true → after (phrase v) ≡ []
-unfolding after phrase same
+pub phrase-none : (v : List ℕ) → empty v ≡ true → afterSpace (phrase v) ≡ []
+unfolding afterSpace phrase same
 phrase-none v h = rw h
 
-pub phrase-some : (v : List ℕ) → empty v ≡ false → after (phrase v) ≡ (bytes " Message from" ++ (32 ∷ take 200 v)) ++ bytes "."
-unfolding after phrase same bytes
+pub phrase-some : (v : List ℕ) → empty v ≡ false → afterSpace (phrase v) ≡ (bytes " Message from" ++ (32 ∷ take 200 v)) ++ bytes "."
+unfolding afterSpace phrase same bytes
 phrase-some v h = rw h
 
-pub phrase-le : (v : List ℕ) → length (after (phrase v)) ≤ 215
+pub phrase-le : (v : List ℕ) → length (afterSpace (phrase v)) ≤ 215
 unfolding bytes
 phrase-le v = go (empty v) refl
   where
-    go : (b : Bool) → empty v ≡ b → length (after (phrase v)) ≤ 215
+    go : (b : Bool) → empty v ≡ b → length (afterSpace (phrase v)) ≤ 215
     go true h = omega (arith, ap length (phrase-none v h))
     go false h = omega (arith, ap length (phrase-some v h), length-append (take 200 v) (bytes "."), length-take 200 v)
 
@@ -43,10 +43,10 @@ phrase-le v = go (empty v) refl
 
 -- the sentence and the sender's phrase
 abbrev pub front : List ℕ → List ℕ → List ℕ
-front sentence sender = sentence ++ after (phrase sender)
+front sentence sender = sentence ++ afterSpace (phrase sender)
 
 front-le : (sentence sender : List ℕ) → length (front sentence sender) ≤ length sentence + 215
-front-le sentence sender = omega (arith, length-append sentence (after (phrase sender)), phrase-le sender)
+front-le sentence sender = omega (arith, length-append sentence (afterSpace (phrase sender)), phrase-le sender)
 
 module _ (sentence eas sender d i : List ℕ) where
   pub text-eas : empty eas ≡ false → length sentence ≤ 1799 → textOf sentence eas sender d i ≡ sentence ++ (32 ∷ take (1799 - length sentence) eas)
@@ -55,7 +55,7 @@ module _ (sentence eas sender d i : List ℕ) where
       let m : most ≡ length sentence + suc (1799 - length sentence) = omega arith in
       rw (h, after-some eas (some-long eas h)) (ap (λ (n : ℕ). take n (sentence ++ (32 ∷ eas))) m ∙ take-append-add sentence (32 ∷ eas) (suc (1799 - length sentence)))
 
-  pub text-parts : empty eas ≡ true → textOf sentence eas sender d i ≡ front sentence sender ++ partsOf (length (front sentence sender)) d i
+  pub text-parts : empty eas ≡ true → textOf sentence eas sender d i ≡ front sentence sender ++ lastParts (length (front sentence sender)) d i
   unfolding textOf
   text-parts h = rw h
 
@@ -68,11 +68,11 @@ pub text-le : (sentence eas sender d i : List ℕ) → length sentence ≤ 1577 
 unfolding textOf
 text-le sentence eas sender d i h =
     let before = front sentence sender in
-    let parts = partsOf (length before) d i in
+    let parts = lastParts (length before) d i in
     let short = front-le sentence sender in
-    either-way (λ (t : List ℕ). length t ≤ most) (empty eas) (before ++ parts) (plain (sentence ++ after eas))
+    either-way (λ (t : List ℕ). length t ≤ most) (empty eas) (before ++ parts) (plain (sentence ++ afterSpace eas))
     (λ e. omega (arith, length-append before parts, parts-le (length before) d i (omega arith)))
-    (λ e. plain-le (sentence ++ after eas))
+    (λ e. plain-le (sentence ++ afterSpace eas))
 
 -- and where description and instruction don't fit, the text has exactly 1,800 characters
 pub text-full : (sentence eas sender d i : List ℕ) → length sentence ≤ 1577 → empty eas ≡ true
@@ -80,4 +80,4 @@ pub text-full : (sentence eas sender d i : List ℕ) → length sentence ≤ 157
 text-full sentence eas sender d i h e k =
     let before = front sentence sender in
     let short = front-le sentence sender in
-    omega (arith, ap length (text-parts sentence eas sender d i e), length-append before (partsOf (length before) d i), parts-full (length before) d i (omega arith) k)
+    omega (arith, ap length (text-parts sentence eas sender d i e), length-append before (lastParts (length before) d i), parts-full (length before) d i (omega arith) k)

@@ -19,8 +19,8 @@ abbrev pub empty : List ℕ → Bool
 empty v = same v []
 
 -- the non-empty ones, each after one space
-unfoldable pub after : List ℕ → List ℕ
-after v = pick (empty v) [] (32 ∷ v)
+unfoldable pub afterSpace : List ℕ → List ℕ
+afterSpace v = pick (empty v) [] (32 ∷ v)
 
 -- `Message from {first 200 characters of senderName}.` (if senderName isn't empty)
 unfoldable pub phrase : List ℕ → List ℕ
@@ -55,14 +55,14 @@ unfoldable pub cut : ℕ → List ℕ → List ℕ
 cut g v = pick (leb (length v) g) v (take (g - 3) v ++ bytes "***")
 
 -- description and instruction behind n characters
-unfoldable pub partsOf : ℕ → List ℕ → List ℕ → List ℕ
-partsOf n description instruction =
+unfoldable pub lastParts : ℕ → List ℕ → List ℕ → List ℕ
+lastParts n description instruction =
     let g = sharesOf (roomOf n description instruction) (length description) (length instruction) in
-    after (cut (g .description) description) ++ after (cut (g .instruction) instruction)
+    afterSpace (cut (g .description) description) ++ afterSpace (cut (g .instruction) instruction)
 
 -- if EASText is not empty: a space and it, cut at 1,800 in all, without a mark;
 -- otherwise the non-empty ones of the sender's phrase, description, instruction
 unfoldable pub textOf : List ℕ → List ℕ → List ℕ → List ℕ → List ℕ → List ℕ
 textOf sentence eas sender description instruction =
-    let front = sentence ++ after (phrase sender) in
-    pick (empty eas) (front ++ partsOf (length front) description instruction) (plain (sentence ++ after eas))
+    let front = sentence ++ afterSpace (phrase sender) in
+    pick (empty eas) (front ++ lastParts (length front) description instruction) (plain (sentence ++ afterSpace eas))

@@ -8,7 +8,7 @@ ghost use lib.ListN.{length, take};
 ghost use lib.Seq.{sets};
 ghost use Rattle.values.specs.Value.{valueAt};
 ghost use Rattle.sentence.specs.Words.{sentenceOf};
-ghost use Rattle.wording.specs.Text.{cut, after, phrase, partsOf, textOf};
+ghost use Rattle.wording.specs.Text.{cut, afterSpace, phrase, lastParts, textOf};
 ghost use Rattle.wording.specs.WorkingGiven.{givenTo};
 
 // The 1,800 characters that a text may have, less the space before what is put last.
@@ -28,9 +28,9 @@ fn put_spaced(s: &[u8], p: usize, g: usize, out: &mut [u8], at: usize) -> usize
 // last three characters, if it is longer.
 fn put_part(s: &[u8], p: usize, g: usize, out: &mut [u8], at: usize) -> usize
     requires { ⌜ (g < length (valueAt (now s) p) → 3 ≤ g) ⌝ }
-    requires { ⌜ at + length (after (cut g (valueAt (now s) p))) ≤ length (now out) ⌝ }
-    ensures { λ r. ⌜ r ≡ at + length (after (cut g (valueAt (now (s .entry)) p))) ⌝ }
-    ensures { λ _. ⌜ now (out .exit) ≡ sets (now (out .entry)) at (after (cut g (valueAt (now (s .entry)) p))) ⌝ }
+    requires { ⌜ at + length (afterSpace (cut g (valueAt (now s) p))) ≤ length (now out) ⌝ }
+    ensures { λ r. ⌜ r ≡ at + length (afterSpace (cut g (valueAt (now (s .entry)) p))) ⌝ }
+    ensures { λ _. ⌜ now (out .exit) ≡ sets (now (out .entry)) at (afterSpace (cut g (valueAt (now (s .entry)) p))) ⌝ }
 {
     if values::is_empty(s, p) {
         return at;
@@ -67,8 +67,8 @@ fn given(n: usize, i: usize) -> usize
 // leaves.
 fn put_parts(s: &[u8], description: usize, instruction: usize, out: &mut [u8], n: usize) -> usize
     requires { ⌜ (n ≤ 1792) × (1800 ≤ length (now out)) ⌝ }
-    ensures { λ r. ⌜ r ≡ n + length (partsOf n (valueAt (now (s .entry)) description) (valueAt (now (s .entry)) instruction)) ⌝ }
-    ensures { λ _. ⌜ now (out .exit) ≡ sets (now (out .entry)) n (partsOf n (valueAt (now (s .entry)) description) (valueAt (now (s .entry)) instruction)) ⌝ }
+    ensures { λ r. ⌜ r ≡ n + length (lastParts n (valueAt (now (s .entry)) description) (valueAt (now (s .entry)) instruction)) ⌝ }
+    ensures { λ _. ⌜ now (out .exit) ≡ sets (now (out .entry)) n (lastParts n (valueAt (now (s .entry)) description) (valueAt (now (s .entry)) instruction)) ⌝ }
 {
     let i = values::size(s, instruction);
     let e = put_part(s, description, given(n, i), out, n);
@@ -81,8 +81,8 @@ fn put_parts(s: &[u8], description: usize, instruction: usize, out: &mut [u8], n
 // Puts a space and the sender's phrase, if there is one.
 fn put_phrase(s: &[u8], sender: usize, out: &mut [u8], at: usize) -> usize
     requires { ⌜ at + 215 ≤ length (now out) ⌝ }
-    ensures { λ r. ⌜ r ≡ at + length (after (phrase (valueAt (now (s .entry)) sender))) ⌝ }
-    ensures { λ _. ⌜ now (out .exit) ≡ sets (now (out .entry)) at (after (phrase (valueAt (now (s .entry)) sender))) ⌝ }
+    ensures { λ r. ⌜ r ≡ at + length (afterSpace (phrase (valueAt (now (s .entry)) sender))) ⌝ }
+    ensures { λ _. ⌜ now (out .exit) ≡ sets (now (out .entry)) at (afterSpace (phrase (valueAt (now (s .entry)) sender))) ⌝ }
 {
     if values::is_empty(s, sender) {
         return at;

@@ -9,10 +9,10 @@ use Rattle.pieces.specs.Pieces.{charAt, inNote, inText, nameAt, noteAt, noted, 
 use Rattle.pieces.specs.Walk.{stepped, walk}
 use Rattle.tags.specs.Attributes.{attrAt, attrNamed, bitAt, decodedAt, decodedFrom, equalled, over, seekAt, sought}
 use Rattle.tags.specs.Attributes as tags-attributes
-use Rattle.tags.specs.Tags.{closeAt, fresh, openAt, shutAt, tailAt, tailed, takeAt, taken}
-use Rattle.markup.specs.Document.{declarationAt, docAt, ended, inDeclaration, leadAt, led, miscAt, miscStep, rootAt, rooted}
+use Rattle.tags.specs.Tags.{closeAt, unlessNamed, openAt, shutAt, tailAt, tailed, takeAt, taken}
+use Rattle.markup.specs.Document.{declarationAt, docAt, ended, inDeclaration, beforeRoot, led, miscAt, miscStep, rootAt, rooted}
 use Rattle.markup.specs.Document as markup-document
-use Rattle.markup.specs.Tree.{child, closed, elemAt, items, opened, put, sealed}
+use Rattle.markup.specs.Tree.{child, closed, elemAt, items, opened, inFront, sealed}
 use Rattle.markup.specs.Tree as markup-tree
 use Rattle.values.specs.Chars.{chars, charsTo, fold, met, nextAt, spelled, textAt}
 use Rattle.values.specs.Chars as values-chars
@@ -21,33 +21,33 @@ use Rattle.values.specs.WorkingSteps.{sixDigits}
 use Rattle.values.specs.Value as values-value
 use Rattle.reads.specs.WorkingLeaves.{pairOk, soundOf}
 use Rattle.reads.specs.Names.{localAt}
-use Rattle.reads.specs.WorkingSteps.{audioOf, audioStep, english, eventStep, locationStep, parameterStep, placed}
+use Rattle.reads.specs.WorkingSteps.{audioOf, audioStep, english, eventStep, locationStep, parameterStep, withLocation}
 use Rattle.gather.specs.WorkingRead.{alertOf, fromEnglish, infoOf, selected, selection}
 use Rattle.gather.specs.Read.{bare, named}
-use Rattle.gather.specs.WorkingVisit.{placeOf}
+use Rattle.gather.specs.WorkingVisit.{leafPlace}
 use Rattle.clock.specs.Calendar.{dayNumber, daysBefore, daysTo, divides, leap, monthDays, months, sum, yearDays}
 use Rattle.clock.specs.Period.{atMost, periodOf, up}
 use Rattle.clock.specs.Stamp.{begun, dayOf, stampOf, yearOf}
-use Rattle.clock.specs.Time.{isSign, signed, since2000, timeOf, utc, within}
+use Rattle.clock.specs.Time.{isSign, signed, since2000, timeOf, utc, inSpan}
 use Rattle.clock.specs.Written.{jjjhhmm, tttt}
-use Rattle.fields.specs.Fields.{identityOk, isIdentity}
+use Rattle.fields.specs.Fields.{identityOk, isIdentityByte}
 use Rattle.fields.specs.WorkingFields.{indexIn, msgTypeIn}
 use Rattle.fields.specs.References.{behind, upTo, words}
 use Rattle.fields.specs.WorkingFields.{groupOk, referencesOk}
 use Rattle.parts.specs.Originator.{originatorBytes, originatorOf}
-use Rattle.parts.specs.Parts.{eventOk, isPeriod, isStation, isZero, stationOk}
+use Rattle.parts.specs.Parts.{eventOk, isPeriod, isStationByte, isZero, stationOk}
 use Rattle.header.specs.Body.{bodyBytes, bodyForm, headForm, lengthForm, locationsBytes, locationsForm, periodForm, timeForm, timesBytes}
 use Rattle.header.specs.Header.{headerBytes}
 use Rattle.message.specs.WorkingJudged.{identified, infoOk, numberWith, onlyOf, referenced, timed, typed}
 use Rattle.message.specs.WorkingJudged as message-judged
-use Rattle.message.specs.WorkingMessage.{judged, messageOf, ofRoot}
+use Rattle.message.specs.WorkingMessage.{judged, messageSays, ofRoot}
 use Rattle.message.specs.WorkingMessage as message-message
 use Rattle.message.specs.Root.{beforeColon, colonAt, isNamespace, prefixOf, rootOk, rootWith, xmlnsOf}
 use Rattle.judgement.specs.WorkingJudged.{alerted, bodyWith, judgedBy}
 use Rattle.judgement.specs.WorkingRules.{eventIs, located, originOf, quietOf, secondsTo, unplaced}
 use Rattle.sentence.specs.Words.{locationWord, orgWords, others, sentenceOf, whenWords, whoWords, wordsIn}
 use Rattle.sentence.specs.Words as sentence-words
-use Rattle.wording.specs.Text.{after, cut, partsOf, phrase, roomOf, sharesOf, textOf}
+use Rattle.wording.specs.Text.{afterSpace, cut, lastParts, phrase, roomOf, sharesOf, textOf}
 use Rattle.convert.specs.WorkingConvert.{alertGiven, convertOf, outcomeOf, roomy, textIn, uriIn}
 use Rattle.report.specs.Lines.{alertLines, audioLine, audioWords, carryLine, decimal, line, linesOf, numberLine, orNone, valueLine}
 use Rattle.report.specs.Lines as report-lines
@@ -59,11 +59,11 @@ octets-opens = tt
 
 clock-opens : Unit {0}
 unfolding dayNumber daysBefore daysTo divides leap monthDays months sum yearDays atMost periodOf up begun dayOf stampOf yearOf isSign signed since2000 timeOf
-    utc within jjjhhmm tttt
+    utc inSpan jjjhhmm tttt
 clock-opens = tt
 
 parts-opens : Unit {0}
-unfolding originatorBytes originatorOf eventOk isPeriod isStation isZero stationOk
+unfolding originatorBytes originatorOf eventOk isPeriod isStationByte isZero stationOk
 parts-opens = tt
 
 header-opens : Unit {0}
@@ -76,13 +76,13 @@ unfolding figureOf isFigure isNamed isPlain isStart mayStand charAt inNote inTex
 pieces-opens = tt
 
 tags-opens : Unit {0}
-unfolding attrAt attrNamed bitAt decodedAt decodedFrom equalled over seekAt sought tags-attributes.joined tags-attributes.valueAt tags-attributes.valued closeAt
-    fresh openAt shutAt tailAt tailed takeAt taken
+unfolding attrAt attrNamed bitAt decodedAt decodedFrom equalled over seekAt sought tags-attributes.characterThen tags-attributes.quotedAt tags-attributes.attributeOf closeAt
+    unlessNamed openAt shutAt tailAt tailed takeAt taken
 tags-opens = tt
 
 markup-opens : Unit {0}
-unfolding declarationAt docAt ended inDeclaration leadAt led miscAt miscStep rootAt rooted markup-document.passed child closed elemAt items opened put sealed
-    markup-tree.turn
+unfolding declarationAt docAt ended inDeclaration beforeRoot led miscAt miscStep rootAt rooted markup-document.goOn child closed elemAt items opened inFront sealed
+    markup-tree.pieceThen
 markup-opens = tt
 
 values-opens : Unit {0}
@@ -91,19 +91,19 @@ unfolding chars charsTo fold met nextAt spelled textAt values-chars.passed value
 values-opens = tt
 
 reads-opens : Unit {0}
-unfolding pairOk soundOf localAt audioOf audioStep english eventStep locationStep parameterStep placed
+unfolding pairOk soundOf localAt audioOf audioStep english eventStep locationStep parameterStep withLocation
 reads-opens = tt
 
 gather-opens : Unit {0}
-unfolding alertOf bare fromEnglish infoOf named selected selection placeOf
+unfolding alertOf bare fromEnglish infoOf named selected selection leafPlace
 gather-opens = tt
 
 fields-opens : Unit {0}
-unfolding identityOk indexIn isIdentity msgTypeIn behind groupOk referencesOk upTo words
+unfolding identityOk indexIn isIdentityByte msgTypeIn behind groupOk referencesOk upTo words
 fields-opens = tt
 
 message-opens : Unit {0}
-unfolding identified infoOk numberWith onlyOf referenced timed typed message-judged.valued judged messageOf ofRoot message-message.passed beforeColon colonAt
+unfolding identified infoOk numberWith onlyOf referenced timed typed message-judged.placeAmong judged messageSays ofRoot message-message.judgedRoot beforeColon colonAt
     isNamespace prefixOf rootOk rootWith xmlnsOf
 message-opens = tt
 
@@ -112,11 +112,11 @@ unfolding alerted bodyWith judgedBy eventIs located originOf quietOf secondsTo u
 judgement-opens = tt
 
 sentence-opens : Unit {0}
-unfolding locationWord orgWords others sentenceOf whenWords whoWords wordsIn sentence-words.joined
+unfolding locationWord orgWords others sentenceOf whenWords whoWords wordsIn sentence-words.locationWords
 sentence-opens = tt
 
 wording-opens : Unit {0}
-unfolding after cut partsOf phrase roomOf sharesOf textOf
+unfolding afterSpace cut lastParts phrase roomOf sharesOf textOf
 wording-opens = tt
 
 convert-opens : Unit {0}
@@ -124,7 +124,7 @@ unfolding alertGiven convertOf outcomeOf roomy textIn uriIn
 convert-opens = tt
 
 report-opens : Unit {0}
-unfolding alertLines audioLine audioWords carryLine decimal line linesOf numberLine orNone valueLine report-lines.spaced programOf
+unfolding alertLines audioLine audioWords carryLine decimal line linesOf numberLine orNone valueLine report-lines.kindThenUri programOf
 report-opens = tt
 
 unfoldable pub converting : Unit {0}

@@ -7,7 +7,7 @@ use native.Mathlib.Omega.{arith}
 use lib.Seq.{sets, take-all}
 use Rattle.parts.proofs.Has.{has, station-long}
 use Rattle.header.proofs.Lengths.{length-header}
-use Rattle.convert.specs.WorkingConvert.{headerIn}
+use Rattle.convert.specs.WorkingConvert.{stationHeader}
 use borrow.Author.Needs.{needs}
 use Rattle.convert.proofs.put_header.Statement.{statement}
 use Rattle.convert.proofs.put_header.Tie as tie
@@ -33,7 +33,7 @@ returns c =
     let a = start .args in
     let station = now (a .station) in
     let named = c .before .before .before .before .before .eight-at .ensures ∙ take-all 8 station (omega (arith, station-long station (start .pre .0))) in
-    (sym (length-header (record { body = a .b; station = station }) (start .pre .1 .0) (start .pre .0)), c .before .before .before .put-header .ensures ∙ ap (λ (w : List ℕ). sets (now (a .out)) 0 (headerIn w (a .b))) named)
+    (sym (length-header (record { body = a .b; station = station }) (start .pre .1 .0) (start .pre .0)), c .before .before .before .put-header .ensures ∙ ap (λ (w : List ℕ). sets (now (a .out)) 0 (stationHeader w (a .b))) named)
 
 pub put-header-spec : {M : Type 1} → statement M
 put-header-spec =

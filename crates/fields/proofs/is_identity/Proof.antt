@@ -6,14 +6,14 @@ use borrow.Author.Tests.{not-true, not-false}
 use lib.ListN.{length, drop}
 use Rattle.octets.specs.Bytes.{every}
 use Rattle.octets.proofs.Tests.{below-between}
-use Rattle.fields.specs.Fields.{isIdentity}
+use Rattle.fields.specs.Fields.{isIdentityByte}
 use Rattle.fields.proofs.Identities.{identity-no, identity-is, identity-long, byte-fails, byte-passes, bytes-end}
 use borrow.Author.Needs.{needs}
 use Rattle.fields.proofs.is_identity.Statement.{statement}
 use Rattle.fields.proofs.is_identity.Tie as tie
 
 abbrev Inv-loop : tie.InvT-loop
-Inv-loop t i₀ i = (i ≤ length t) × (every isIdentity (drop i t) ≡ every isIdentity t)
+Inv-loop t i₀ i = (i ≤ length t) × (every isIdentityByte (drop i t) ≡ every isIdentityByte t)
 
 abbrev μ-loop : tie.MeasureT-loop
 μ-loop t i₀ i = length t - i

@@ -16,7 +16,7 @@ use Rattle.markup.specs.Tree.{contentAt}
 use Rattle.reads.specs.declared.Context.{Context}
 use Rattle.reads.specs.declared.State.{State}
 use Rattle.gather.specs.declared.Touch.the-variants.{Holds}
-use Rattle.gather.specs.WorkingVisit.{touchIn, left, placeOf, settled, finished, gotHeld}
+use Rattle.gather.specs.WorkingVisit.{touchIn, left, leafPlace, settled, finished, gotHeld}
 use Rattle.gather.proofs.Passes.{Passing, passing-starts, passing-text, passing-note, passing-close, passing-bad, child-goes, passing-child, passing-none, inner, one-deep, one-shut, one-empty, one-bad, one-close}
 use borrow.Fn.Kinds.{In}
 use borrow.Fn.PlainCycle.{Measures, is, falls, and}
@@ -541,7 +541,7 @@ read-element-returns-4 : (t : ℕ) → read-element-lts.Need-returns-4 (
   finish-reads.Asked,
   finish-reads.Learnt,
 ) (read-element-at t) read-element.Post
-read-element-returns-4 t c = let a = c .before .before .before .before .before .before .before .before .before .before .before .before .before .before .before .before .args in let s = now (a .s) in let p = now (a .p) in let b = a .depth - 1 in let up : a .depth ≡ suc b = omega (arith, c .before .before .before .before .before .before .before .before .before .before .before .before .before .if1 .left) in let x = c .before .before .before .before .before .before .before .before .before .o2 .given .0 .0 in let y = c .before .before .before .before .before .before .before .before .before .o2 .given .0 .1 .0 in let e : openAt s (a .at) ≡ Full x y = sym (c .before .before .before .before .before .before .before .before .before .before .before .open-tag .ensures) ∙ c .before .before .before .before .before .before .before .before .before .o2 .given .1 in let z = c .before .before .before .before .before .read-content in let told : settled (length s) (z .result) ≡ gotHeld s p (inner s p (a .c) (a .st) (a .depth) (a .at) x) (touchIn Holds (a .c) (a .st)) (contentAt s b y) = z .ensures ∙ ap (λ (k : Context). gotHeld s p k (c .before .before .before .before .before .before .touch-leaf2 .result) (contentAt s b y)) (c .before .before .before .before .before .before .before .context-of2 .ensures) ∙ ap (λ (q : State). gotHeld s p (inner s p (a .c) (a .st) (a .depth) (a .at) x) q (contentAt s b y)) (c .before .before .before .before .before .before .touch-leaf2 .ensures) in c .finish .ensures ∙ ap (λ (k : Context). finished (length s) (closeAt s (a .at) x (c .before .before .before .e .given .0 .0)) (left s k (placeOf s y (c .before .before .before .e .given .0 .0)) (z .result .state))) (c .before .before .before .before .before .before .before .context-of2 .ensures) ∙ one-close s p (a .c) (a .st) (a .depth) (a .at) b up x y e (z .result) told (c .before .before .before .e .given .0 .0) (c .before .before .before .e .given .1)
+read-element-returns-4 t c = let a = c .before .before .before .before .before .before .before .before .before .before .before .before .before .before .before .before .args in let s = now (a .s) in let p = now (a .p) in let b = a .depth - 1 in let up : a .depth ≡ suc b = omega (arith, c .before .before .before .before .before .before .before .before .before .before .before .before .before .if1 .left) in let x = c .before .before .before .before .before .before .before .before .before .o2 .given .0 .0 in let y = c .before .before .before .before .before .before .before .before .before .o2 .given .0 .1 .0 in let e : openAt s (a .at) ≡ Full x y = sym (c .before .before .before .before .before .before .before .before .before .before .before .open-tag .ensures) ∙ c .before .before .before .before .before .before .before .before .before .o2 .given .1 in let z = c .before .before .before .before .before .read-content in let told : settled (length s) (z .result) ≡ gotHeld s p (inner s p (a .c) (a .st) (a .depth) (a .at) x) (touchIn Holds (a .c) (a .st)) (contentAt s b y) = z .ensures ∙ ap (λ (k : Context). gotHeld s p k (c .before .before .before .before .before .before .touch-leaf2 .result) (contentAt s b y)) (c .before .before .before .before .before .before .before .context-of2 .ensures) ∙ ap (λ (q : State). gotHeld s p (inner s p (a .c) (a .st) (a .depth) (a .at) x) q (contentAt s b y)) (c .before .before .before .before .before .before .touch-leaf2 .ensures) in c .finish .ensures ∙ ap (λ (k : Context). finished (length s) (closeAt s (a .at) x (c .before .before .before .e .given .0 .0)) (left s k (leafPlace s y (c .before .before .before .e .given .0 .0)) (z .result .state))) (c .before .before .before .before .before .before .before .context-of2 .ensures) ∙ one-close s p (a .c) (a .st) (a .depth) (a .at) b up x y e (z .result) told (c .before .before .before .e .given .0 .0) (c .before .before .before .e .given .1)
 
 read-element-returns-5 : (t : ℕ) → read-element-lts.Need-returns-5 (
   open-tag-reads.Asked,

@@ -5,7 +5,7 @@ use native.Mathlib.Omega.{arith}
 use borrow.Author.Needs.{needs}
 use borrow.Author.Tests.{not-true, not-false, eq-eqb, ne-eqb}
 use Rattle.header.proofs.Reading.{period-refused, period-taken}
-use Rattle.header.specs.Body.{periodOf}
+use Rattle.header.specs.Body.{periodIn}
 use Rattle.octets.proofs.Numbers.{ranged-yes, ranged-no, ranged-high-of}
 use Rattle.octets.specs.Bytes.{part}
 use Rattle.octets.specs.Digits.{rangedOf}
@@ -27,7 +27,7 @@ hours c = sym (c .before .before .ranged .ensures) ∙ c .h .given .1
 minutes : (c : tie.After-m) → rangedOf 0 59 (part ((to-hours c) .before .before .before .before .before .before .args .t .now) 3 2) ≡ Value (c .m .given .0 .0)
 minutes c = sym (c .before .before .ranged2 .ensures) ∙ c .m .given .1
 
-whole : (c : tie.After-m) → periodOf ((to-hours c) .before .before .before .before .before .before .args .t .now) ≡ (to-hours c) .h .given .0 .0 * 60 + c .m .given .0 .0
+whole : (c : tie.After-m) → periodIn ((to-hours c) .before .before .before .before .before .before .args .t .now) ≡ (to-hours c) .h .given .0 .0 * 60 + c .m .given .0 .0
 whole c = ap₂ (λ (a b : ℕ). a * 60 + b) (ranged-yes 0 99 _ _ (hours (to-hours c)) .1) (ranged-yes 0 59 _ _ (minutes c) .1)
 
 shared-slice-read-if1 : tie.Need-shared-slice-read-if1

@@ -9,7 +9,7 @@ use borrow.Author.Needs.{needs}
 use borrow.Author.Tests.{not-true, not-false}
 use Rattle.header.proofs.Locations.{form-is}
 use Rattle.header.proofs.Reading.{length-is, few-in, head-unknown, period-bad, time-no, body-refused, body-taken}
-use Rattle.header.specs.Body.{periodRead, timeRead, lengthForm, countOf, timesPart}
+use Rattle.header.specs.Body.{periodRead, timeRead, lengthForm, locationCount, timesPart}
 use Rattle.octets.proofs.Parts.{sliced}
 use Rattle.parts.specs.declared.Locations.{Locations}
 use Rattle.header.proofs.read_body.Statement.{statement}
@@ -37,8 +37,8 @@ said c = c .before .before .before .args .s .now
 lengthy : (c : tie.Else1) → lengthForm (length (said c)) ≡ true
 lengthy c = sym (c .before .length-ok .ensures) ∙ not-false _ (c .if1 .left)
 
-times : (c : tie.Else1) → timesPart (said c) ≡ take (12 + 7 * countOf (said c) + 14 - (12 + 7 * countOf (said c))) (drop (12 + 7 * countOf (said c)) (said c))
-times c = sliced (said c) (12 + 7 * countOf (said c)) 14
+times : (c : tie.Else1) → timesPart (said c) ≡ take (12 + 7 * locationCount (said c) + 14 - (12 + 7 * locationCount (said c))) (drop (12 + 7 * locationCount (said c)) (said c))
+times c = sliced (said c) (12 + 7 * locationCount (said c)) 14
 
 length-ok-requires : tie.Need-length-ok-requires
 length-ok-requires c κs = search needs

@@ -13,7 +13,7 @@ use Rattle.octets.specs.Text.{bytes}
 use Rattle.pieces.specs.Pieces.{noteAt}
 use Rattle.pieces.specs.declared.End.the-variants.{At, No}
 use Rattle.pieces.proofs.Inside.{space-in}
-use Rattle.markup.specs.Document.{passed, miscStep}
+use Rattle.markup.specs.Document.{goOn, miscStep}
 use Rattle.markup.proofs.misc_step.Statement.{statement}
 use Rattle.markup.proofs.misc_step.Tie as tie
 
@@ -64,7 +64,7 @@ enum-told : tie.Need-enum-told
 enum-told c = search needs
 
 returns-3 : tie.Need-returns-3
-unfolding miscStep passed bytes
+unfolding miscStep goOn bytes
 returns-3 c =
     let s = now (c .before .before .before .before .before .before .before .before .before .before .before .args .s) in
     let i = c .before .before .before .before .before .before .before .before .before .before .before .args .i in
@@ -74,7 +74,7 @@ returns-3 c =
     rw (b, y, n)
 
 returns-4 : tie.Need-returns-4
-unfolding miscStep passed bytes
+unfolding miscStep goOn bytes
 returns-4 c =
     let s = now (c .before .before .before .before .before .before .before .before .before .before .args .s) in
     let i = c .before .before .before .before .before .before .before .before .before .before .args .i in

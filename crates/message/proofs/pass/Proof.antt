@@ -9,7 +9,7 @@ use denote.Ref.{now}
 use Rattle.pieces.specs.declared.End.the-variants.{At}
 use Rattle.markup.specs.Tree.{One, elemAt}
 use Rattle.markup.specs.Document.{miscAt}
-use Rattle.reads.specs.WorkingLeaves.{fresh}
+use Rattle.reads.specs.WorkingLeaves.{nothingRead}
 use Rattle.reads.specs.declared.Context.{Context}
 use Rattle.reads.specs.declared.State.{State}
 use Rattle.gather.specs.WorkingVisit.{gotOne}
@@ -33,7 +33,7 @@ isRoot c = c .before .before .before .before .before .args .ok
 abbrev root : tie.After-element → One
 root c = elemAt (bytes c) 12 (c .before .before .before .before .before .args .i)
 
-got : (c : tie.After-element) → c .element .result ≡ gotOne (bytes c) (prefix c) (rootContext (isRoot c)) (fresh (length (bytes c))) (root c)
+got : (c : tie.After-element) → c .element .result ≡ gotOne (bytes c) (prefix c) (rootContext (isRoot c)) (nothingRead (length (bytes c))) (root c)
 got c =
     c .element .ensures
     ∙ ap₂ (λ (k : Context) (st : State). gotOne (bytes c) (prefix c) k st (root c)) (c .before .before .root-context .ensures) (c .before .new-state .ensures)

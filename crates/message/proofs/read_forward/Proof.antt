@@ -36,7 +36,7 @@ use denote.Triple.Walked.{says, Stays, stay-none-slice, walkOf, goes-none-slice,
 use denote.Exit.{yes}
 use denote.Triple.Clauses.{ensured, lasts}
 use Rattle.markup.specs.Tree.{elemAt}
-use Rattle.markup.specs.Document.{leadAt, rooted, docAt}
+use Rattle.markup.specs.Document.{beforeRoot, rooted, docAt}
 use Rattle.reader.specs.WorkingPosition.{reached}
 use Rattle.reader.specs.declared.Reader.{Reader}
 use Rattle.reader.proofs.Forward.{doc-reached}
@@ -75,7 +75,7 @@ abbrev Made : RefT (List ℕ) → Reader → Type 0
 Made s r = (r .src ≡ s) × (r .at ≡ 0)
 
 abbrev Led : Reader → Reader → Type 0
-Led r t = (t .src ≡ r .src) × (t .at ≡ reached (now (r .src)) (leadAt (now (r .src)) (r .at)))
+Led r t = (t .src ≡ r .src) × (t .at ≡ reached (now (r .src)) (beforeRoot (now (r .src)) (r .at)))
 
 abbrev Rest : Reader → Message → Type 0
 Rest t m = m ≡ ofRoot (now (t .src)) (rooted (now (t .src)) (elemAt (now (t .src)) 12 (t .at)))
@@ -83,7 +83,7 @@ Rest t m = m ≡ ofRoot (now (t .src)) (rooted (now (t .src)) (elemAt (now (t .s
 -- the three calls, one after the other
 composed : (s : RefT (List ℕ)) (r t : Reader) (m : Message) → Made s r → Led r t → Rest t m → m ≡ ofRoot (now s) (docAt (now s))
 composed s r t m e n f =
-    let at : t .at ≡ reached (now s) (leadAt (now s) 0) = n .1 ∙ ap₂ (λ (x : RefT (List ℕ)) (i : ℕ). reached (now x) (leadAt (now x) i)) (e .0) (e .1) in
+    let at : t .at ≡ reached (now s) (beforeRoot (now s) 0) = n .1 ∙ ap₂ (λ (x : RefT (List ℕ)) (i : ℕ). reached (now x) (beforeRoot (now x) i)) (e .0) (e .1) in
     f ∙ ap₂ (λ (x : RefT (List ℕ)) (i : ℕ). ofRoot (now x) (rooted (now x) (elemAt (now x) 12 i))) (n .0 ∙ e .0) at ∙ ap (ofRoot (now s)) (doc-reached (now s))
 
 module _ {M : Type 1} (𝓤 : URA M) (H : Heap 𝓤) (A : Atoms 𝓤) (mem : Memory → SProp 𝓤) (run : Routine → Fun 𝓤) where

@@ -12,7 +12,7 @@ use Rattle.pieces.specs.declared.End.the-variants.{At}
 use Rattle.markup.specs.Tree.{elemAt}
 use Rattle.markup.specs.Document.{rooted}
 use Rattle.message.specs.Root.{rootWith, rootOk}
-use Rattle.message.specs.WorkingMessage.{passed}
+use Rattle.message.specs.WorkingMessage.{judgedRoot}
 use Rattle.message.proofs.Roots.{root-unnamed, root-named, prefixed, root-prefixed, unprefixed, root-unprefixed, name-ends, colon-from}
 use borrow.Author.Needs.{needs}
 use Rattle.message.proofs.read_root.Statement.{statement}
@@ -129,7 +129,7 @@ returns-2 c =
     let k = c .before .before .before .before .before .before .colon .result in
     let h = c .before .before .before .before .before .if1 .taken in
     let b : c .before .is-root .result ≡ rootOk s i to = c .before .is-root .ensures ∙ root-prefixed s i to k (c .before .before .before .before .before .before .colon .ensures) h in
-    c .pass .ensures ∙ ap₂ (λ (q : List ℕ) (x : Bool). passed s q x o) (prefixed s i to k (c .before .before .before .before .before .before .colon .ensures) h) b ∙ root-named s (a .i) to e
+    c .pass .ensures ∙ ap₂ (λ (q : List ℕ) (x : Bool). judgedRoot s q x o) (prefixed s i to k (c .before .before .before .before .before .before .colon .ensures) h) b ∙ root-named s (a .i) to e
 
 sub-none : tie.Need-sub-none
 sub-none c = search needs
@@ -178,7 +178,7 @@ returns-3 c =
     c .before .is-root2 .ensures
     ∙ ap (λ (q : List ℕ). rootWith s q (bytes "xmlns" ++ q) i to) n
     ∙ root-unprefixed s i to k (c .before .before .before .before .before .colon .ensures) h in
-    c .pass2 .ensures ∙ ap₂ (λ (q : List ℕ) (x : Bool). passed s q x o) (n ∙ unprefixed s i to k (c .before .before .before .before .before .colon .ensures) h) b ∙ root-named s (a .i) to e
+    c .pass2 .ensures ∙ ap₂ (λ (q : List ℕ) (x : Bool). judgedRoot s q x o) (n ∙ unprefixed s i to k (c .before .before .before .before .before .colon .ensures) h) b ∙ root-named s (a .i) to e
 
 pub read-root-spec : {M : Type 1} → statement M
 read-root-spec =

@@ -3,7 +3,7 @@ use native.Mathlib.Omega.{arith}
 use lib.ListN.{length-take}
 use Rattle.offers.proofs.Taken.{Ready, ready}
 use Rattle.offers.proofs.Putting.{notice-laid}
-use Rattle.offers.specs.WorkingRecords.{ownIn, headerIn}
+use Rattle.offers.specs.WorkingRecords.{ownIn, zeroFilledHeader}
 use borrow.Author.Needs.{needs}
 use Rattle.offers.proofs.notice_by.Statement.{statement}
 use Rattle.offers.proofs.notice_by.Tie as tie
@@ -58,7 +58,7 @@ notice-requires : tie.Need-notice-requires
 notice-requires c κs = search needs
 
 returns : tie.Need-returns
-unfolding ownIn headerIn
+unfolding ownIn zeroFilledHeader
 returns c =
     let head = c .before .before .before .before .before in
     let called = head .before .before .before in

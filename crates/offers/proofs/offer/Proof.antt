@@ -3,8 +3,8 @@ use native.Mathlib.Omega.{arith}
 use mathlib.Core.Path.{sym, ap, _∙_}
 use borrow.Author.Tests.{not-true, not-false}
 use Rattle.judgement.specs.declared.Judged.{Judged}
-use Rattle.offers.specs.Offer.{Offering}
-use Rattle.offers.specs.WorkingOffer.{refused}
+use Rattle.offers.specs.Offer.{MessageOffering}
+use Rattle.offers.specs.WorkingOffer.{offerRefusedBy}
 use Rattle.offers.proofs.Offering.{offer-board, offer-message, judged-small}
 use borrow.Author.Needs.{needs}
 use Rattle.offers.proofs.offer.Statement.{statement}
@@ -29,7 +29,7 @@ same-length-2 : tie.Need-same-length-2
 same-length-2 c = search needs
 
 returns-2 : tie.Need-returns-2
-returns-2 c = let e = sym (offer-board _ _ (sym (c .before .is-board .ensures) ∙ not-true _ (c .if2 .taken))) in (ap (λ (o : Offering). o .answer) e, (ap (λ (o : Offering). o .bytes) e, (omega arith, omega arith, omega arith)))
+returns-2 c = let e = sym (offer-board _ _ (sym (c .before .is-board .ensures) ∙ not-true _ (c .if2 .taken))) in (ap (λ (o : MessageOffering). o .answer) e, (ap (λ (o : MessageOffering). o .bytes) e, (omega arith, omega arith, omega arith)))
 
 same-length-3 : tie.Need-same-length-3
 same-length-3 c = search needs
@@ -41,9 +41,9 @@ returns-3 c =
     let j = x .before .before in
     let a = j .before .before .before .args in
     let t = j .judge .ensures in
-    let e = ap (λ (y : Judged). refused (y .number) (y .field) (a .s .now)) t ∙ sym (offer-message _ _ (sym (b .is-board .ensures) ∙ not-false _ (c .if2 .left)) (λ z. x .if1 .left (ap (λ (y : Judged). y .number) t ∙ z))) in
+    let e = ap (λ (y : Judged). offerRefusedBy (y .number) (y .field) (a .s .now)) t ∙ sym (offer-message _ _ (sym (b .is-board .ensures) ∙ not-false _ (c .if2 .left)) (λ z. x .if1 .left (ap (λ (y : Judged). y .number) t ∙ z))) in
     let small = judged-small (a .message .now) in
-    (ap (λ (o : Offering). o .answer) e, (ap (λ (o : Offering). o .bytes) e, (rw t (small .0), rw t (small .1), omega arith)))
+    (ap (λ (o : MessageOffering). o .answer) e, (ap (λ (o : MessageOffering). o .bytes) e, (rw t (small .0), rw t (small .1), omega arith)))
 
 pub offer-spec : {M : Type 1} → statement M
 offer-spec =

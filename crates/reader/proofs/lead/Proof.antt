@@ -42,7 +42,7 @@ use denote.Triple.Table.{entered, cited}
 use denote.Triple.Walked.{says, Stays, stay-none, walkOf, goes-none, Walks, ends-at, walked, walk-meets}
 use denote.Exit.{yes}
 use denote.Triple.Clauses.{ensured, lasts}
-use Rattle.markup.specs.Document.{leadAt}
+use Rattle.markup.specs.Document.{beforeRoot}
 use Rattle.reader.specs.WorkingPosition.{reached}
 use Rattle.reader.specs.declared.Reader.{Reader}
 use Rattle.reader.proofs.Reader as T
@@ -77,7 +77,7 @@ module _ {M : Type 1} (𝓤 : URA M) (H : Heap 𝓤) (A : Atoms 𝓤) (W : Given
   v = sliceVal (d .src .ptr) (length (d .src .now))
 
   abbrev found : ℕ
-  found = reached (now (d .src)) (leadAt (now (d .src)) (d .at))
+  found = reached (now (d .src)) (beforeRoot (now (d .src)) (d .at))
 
   abbrev moved : ℕ → Reader
   moved n = record { src = d .src; at = n }

@@ -3,7 +3,7 @@ use mathlib.Core.Path.{_≡_, sym, _∙_}
 use denote.Ref.{now}
 use borrow.Author.Needs.{needs}
 use Rattle.pieces.specs.declared.End.the-variants.{At, No}
-use Rattle.markup.specs.Document.{declarationAt, miscAt, led, leadAt}
+use Rattle.markup.specs.Document.{declarationAt, miscAt, led, beforeRoot}
 use Rattle.reader.specs.WorkingPosition.{reached}
 use Rattle.reader.proofs.lead_at.Statement.{statement}
 use Rattle.reader.proofs.lead_at.Tie as tie
@@ -18,7 +18,7 @@ enum-told : tie.Need-enum-told
 enum-told c = search needs
 
 returns : tie.Need-returns
-unfolding leadAt led reached
+unfolding beforeRoot led reached
 returns c =
     let a = c .before .before .before .before .args in
     let d : declarationAt (now (a .s)) (a .at) ≡ No = sym (c .before .before .declaration .ensures) ∙ c .enum-told .given .1 in
@@ -34,7 +34,7 @@ enum-told-2 : tie.Need-enum-told-2
 enum-told-2 c = search needs
 
 returns-2 : tie.Need-returns-2
-unfolding leadAt led reached
+unfolding beforeRoot led reached
 returns-2 c =
     let a = c .before .before .before .before .before .before .before .before .args in
     let b = c .before .before .before .before .d .given .0 .0 in
@@ -43,7 +43,7 @@ returns-2 c =
     rw (d, m)
 
 returns-3 : tie.Need-returns-3
-unfolding leadAt led reached
+unfolding beforeRoot led reached
 returns-3 c =
     let a = c .before .before .before .before .before .before .before .before .before .args in
     let b = c .before .before .before .before .before .d .given .0 .0 in

@@ -7,13 +7,13 @@ use borrow.Author.Needs.{needs}
 use Rattle.octets.specs.Text.{bytes}
 use Rattle.words.specs.WorkingWords.{wordsOf}
 use Rattle.words.proofs.Choices.{chosen, alike}
-use Rattle.reads.specs.Names.{Row, among, inAlert, infoInside}
+use Rattle.reads.specs.Names.{ReadElement, among, inAlert, infoInside}
 use Rattle.reads.specs.declared.Context.the-variants.{AlertLeaf, Skipped}
 use Rattle.reads.proofs.Rows.{insides, insideAt, no-row}
 use Rattle.reads.proofs.alert_context.Statement.{statement}
 use Rattle.reads.proofs.alert_context.Tie as tie
 
-abbrev rows : tie.After-which → List Row
+abbrev rows : tie.After-which → List ReadElement
 rows c = inAlert (c .before .before .before .before .args .kept)
 
 told : (c : tie.After-which) (k : ℕ) → c .which .result ≡ k → insideAt (rows c) k ≡ among (rows c) (now (c .before .before .before .before .args .name))

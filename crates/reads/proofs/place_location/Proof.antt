@@ -1,12 +1,12 @@
 -- Behind 31 places nothing is added; else the place is the next one.
 use borrow.Author.Tests.{le-leb, lt-leb}
 use borrow.Author.Needs.{needs}
-use Rattle.reads.specs.WorkingSteps.{placed}
+use Rattle.reads.specs.WorkingSteps.{withLocation}
 use Rattle.reads.proofs.place_location.Statement.{statement}
 use Rattle.reads.proofs.place_location.Tie as tie
 
 returns : tie.Need-returns
-unfolding placed
+unfolding withLocation
 returns c = rw (le-leb _ _ (c .if1 .taken))
 
 mul-list : tie.Need-mul-list
@@ -19,7 +19,7 @@ add-t6 : tie.Need-add-t6
 add-t6 c = search needs
 
 returns-2 : tie.Need-returns-2
-unfolding placed
+unfolding withLocation
 returns-2 c = rw (lt-leb _ _ (c .if1 .left))
 
 pub place-location-spec : {M : Type 1} → statement M

@@ -6,7 +6,7 @@ use lib.ListN.{length}
 use Rattle.octets.specs.Text.{bytes}
 use Rattle.sentence.proofs.Puts.{first, put-all}
 use Rattle.report.proofs.Choices.{audio-none}
-use Rattle.report.specs.Lines.{spaced, audioWords}
+use Rattle.report.specs.Lines.{kindThenUri, audioWords}
 use borrow.Author.Needs.{needs}
 use Rattle.report.proofs.put_audio_words.Statement.{statement}
 use Rattle.report.proofs.put_audio_words.Tie as tie
@@ -30,7 +30,7 @@ returns c =
     let at-put-spaced = c .before .before in
     let at-if1 = at-put-spaced .before .before .before in
     let start = at-if1 .before .before .before in
-    put-all (first (start .args .out .now) (start .args .at) (spaced (bytes "mp3") (start .args .uri .now)) (at-put-spaced .put-spaced .ensures)) _ (ap (λ (k : ℕ). audioWords k (start .args .uri .now)) (at-if1 .if1 .taken))
+    put-all (first (start .args .out .now) (start .args .at) (kindThenUri (bytes "mp3") (start .args .uri .now)) (at-put-spaced .put-spaced .ensures)) _ (ap (λ (k : ℕ). audioWords k (start .args .uri .now)) (at-if1 .if1 .taken))
 
 slice-aggregate-put-spaced-2 : tie.Need-slice-aggregate-put-spaced-2
 slice-aggregate-put-spaced-2 c = search needs
@@ -51,7 +51,7 @@ returns-2 c =
     let at-put-spaced2 = c .before .before in
     let at-if2 = at-put-spaced2 .before .before .before in
     let start = at-if2 .before .before .before .before in
-    put-all (first (start .args .out .now) (start .args .at) (spaced (bytes "wav") (start .args .uri .now)) (at-put-spaced2 .put-spaced2 .ensures)) _ (ap (λ (k : ℕ). audioWords k (start .args .uri .now)) (at-if2 .if2 .taken))
+    put-all (first (start .args .out .now) (start .args .at) (kindThenUri (bytes "wav") (start .args .uri .now)) (at-put-spaced2 .put-spaced2 .ensures)) _ (ap (λ (k : ℕ). audioWords k (start .args .uri .now)) (at-if2 .if2 .taken))
 
 slice-aggregate-put-spaced-3 : tie.Need-slice-aggregate-put-spaced-3
 slice-aggregate-put-spaced-3 c = search needs
@@ -72,7 +72,7 @@ returns-3 c =
     let at-put-spaced3 = c .before .before in
     let at-if3 = at-put-spaced3 .before .before .before in
     let start = at-if3 .before .before .before .before .before in
-    put-all (first (start .args .out .now) (start .args .at) (spaced (bytes "stream") (start .args .uri .now)) (at-put-spaced3 .put-spaced3 .ensures)) _ (ap (λ (k : ℕ). audioWords k (start .args .uri .now)) (at-if3 .if3 .taken))
+    put-all (first (start .args .out .now) (start .args .at) (kindThenUri (bytes "stream") (start .args .uri .now)) (at-put-spaced3 .put-spaced3 .ensures)) _ (ap (λ (k : ℕ). audioWords k (start .args .uri .now)) (at-if3 .if3 .taken))
 
 slice-aggregate-put : tie.Need-slice-aggregate-put
 slice-aggregate-put c = search needs

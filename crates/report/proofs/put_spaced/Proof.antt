@@ -4,13 +4,13 @@ use native.Mathlib.Omega.{arith}
 use lib.ListN.{length-append}
 use Rattle.octets.specs.Text.{bytes}
 use Rattle.sentence.proofs.Puts.{first, next, put-all}
-use Rattle.report.specs.Lines.{spaced}
+use Rattle.report.specs.Lines.{kindThenUri}
 use borrow.Author.Needs.{needs}
 use Rattle.report.proofs.put_spaced.Statement.{statement}
 use Rattle.report.proofs.put_spaced.Tie as tie
 
 put-requires : tie.Need-put-requires
-unfolding spaced bytes
+unfolding kindThenUri bytes
 put-requires c κs =
     let start = c .before .before .before .before in
     omega (arith, simp length-append at (start .pre))
@@ -19,13 +19,13 @@ slice-aggregate-put : tie.Need-slice-aggregate-put
 slice-aggregate-put c = search needs
 
 put-requires-2 : tie.Need-put-requires-2
-unfolding spaced bytes
+unfolding kindThenUri bytes
 put-requires-2 c κs =
     let start = c .before .before .before .before .before .before .before .before .before in
     omega (arith, simp length-append at (start .pre))
 
 put-requires-3 : tie.Need-put-requires-3
-unfolding spaced bytes
+unfolding kindThenUri bytes
 put-requires-3 c κs =
     let start = c .before .before .before .before .before .before .before .before .before .before .before .before .before in
     omega (arith, simp length-append at (start .pre))
@@ -34,7 +34,7 @@ same-length : tie.Need-same-length
 same-length c = search needs
 
 returns : tie.Need-returns
-unfolding spaced bytes
+unfolding kindThenUri bytes
 returns c =
     let at-put3 = c .before .before in
     let at-put2 = at-put3 .before .before .before .before in

@@ -9,31 +9,31 @@ use Rattle.words.specs.WorkingWords.{wordsOf}
 use Rattle.words.proofs.Choices.{chosen, alike}
 use Rattle.sentence.proofs.Lengths.{event-le}
 use Rattle.sentence.proofs.Puts.{first, next, put-all}
-use Rattle.sentence.specs.Words.{Event, events, wordsIn, eventWords}
+use Rattle.sentence.specs.Words.{EventWords, eventTable, wordsIn, eventWords}
 use borrow.Author.Needs.{needs}
 use Rattle.sentence.proofs.put_event.Statement.{statement}
 use Rattle.sentence.proofs.put_event.Tie as tie
 
-abbrev phrases : List Event → List (List ℕ)
+abbrev phrases : List EventWords → List (List ℕ)
 phrases [] = []
 phrases (r ∷ rs) = r .words ∷ phrases rs
 
 -- the words of the event at place k of the codes; behind the last, `event EEE`
 abbrev said : List ℕ → ℕ → List ℕ
-said e k = getD (phrases events) k (bytes "event " ++ e)
+said e k = getD (phrases eventTable) k (bytes "event " ++ e)
 
 abbrev event : tie.After-which → List ℕ
 event c = c .before .before .before .before .before .args .e .now
 
 told : (c : tie.After-which) → said (event c) (c .which .result) ≡ eventWords (event c)
 unfolding wordsIn bytes wordsOf
-told c = chosen (bytes "event " ++ event c) _ (phrases events) (event c) (c .which .ensures)
+told c = chosen (bytes "event " ++ event c) _ (phrases eventTable) (event c) (c .which .ensures)
 
 word-is : (c : tie.After-word) → c .word .result .now ≡ eventWords (event (c .before .before .before .before))
 unfolding bytes wordsOf
 word-is c =
     let at-which = c .before .before .before .before in
-    c .word .ensures ∙ alike (λ (k : ℕ). getD (phrases events) k []) (said (event at-which)) 6 refl (at-which .which .result) (c .before .before .before .if1 .taken) ∙ told at-which
+    c .word .ensures ∙ alike (λ (k : ℕ). getD (phrases eventTable) k []) (said (event at-which)) 6 refl (at-which .which .result) (c .before .before .before .if1 .taken) ∙ told at-which
 
 slice-aggregate-which : tie.Need-slice-aggregate-which
 slice-aggregate-which c = search needs
@@ -86,7 +86,7 @@ returns-2 c =
     let at-put = c .before .before .before .before .before .before in
     let at-which = c .before .before .before .before .before .before .before .before .before .before in
     let one = first (start .args .out .now) (start .args .at) (bytes "event ") (at-put .put2 .ensures) in
-    put-all (next one (start .args .e .now) (c .before .before .put3 .ensures)) _ (sym (told at-which) ∙ List·getD-eq-default (phrases events) (bytes "event " ++ start .args .e .now) (c .before .before .before .before .before .before .before .before .before .if1 .left))
+    put-all (next one (start .args .e .now) (c .before .before .put3 .ensures)) _ (sym (told at-which) ∙ List·getD-eq-default (phrases eventTable) (bytes "event " ++ start .args .e .now) (c .before .before .before .before .before .before .before .before .before .if1 .left))
 
 pub put-event-spec : {M : Type 1} → statement M
 put-event-spec =

@@ -4,12 +4,12 @@ use mathlib.Core.Path.{_≡_, ap}
 use native.Mathlib.Omega.{arith}
 use lib.ListN.{length, take, drop, getD, length-append}
 use Rattle.sentence.proofs.Puts.{first, next, put-all, joined-first}
-use Rattle.sentence.specs.Words.{locationWord, others, joined}
+use Rattle.sentence.specs.Words.{locationWord, others, locationWords}
 use borrow.Author.Needs.{needs}
 use Rattle.sentence.proofs.put_joined.Statement.{statement}
 use Rattle.sentence.proofs.put_joined.Tie as tie
 
-begins : (c : tie.Start) → joined (take (c .args .n) (c .args .list .now)) ≡ locationWord (getD (c .args .list .now) 0 0) ++ others (drop 1 (take (c .args .n) (c .args .list .now)))
+begins : (c : tie.Start) → locationWords (take (c .args .n) (c .args .list .now)) ≡ locationWord (getD (c .args .list .now) 0 0) ++ others (drop 1 (take (c .args .n) (c .args .list .now)))
 begins c = joined-first (c .args .list .now) (c .args .n) (c .pre .0 .1) (c .pre .0 .0)
 
 shared-slice-read-put-location : tie.Need-shared-slice-read-put-location

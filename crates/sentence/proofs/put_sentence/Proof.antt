@@ -6,7 +6,7 @@ use native.Mathlib.Omega.{arith}
 use lib.ListN.{length, take, length-take}
 use Rattle.sentence.proofs.Lengths.{who-le, joined-le}
 use Rattle.sentence.proofs.Puts.{first, next, put-all}
-use Rattle.sentence.specs.Words.{joined, whoWords, whenWords, sentenceOf}
+use Rattle.sentence.specs.Words.{locationWords, whoWords, whenWords, sentenceOf}
 use borrow.Author.Needs.{needs}
 use Rattle.sentence.proofs.put_sentence.Statement.{statement}
 use Rattle.sentence.proofs.put_sentence.Tie as tie
@@ -23,7 +23,7 @@ listed c = take (c .args .b .count) (c .args .b .locations)
 who-room : (c : tie.Start) → length (whoWords (c .args .b .originator) (c .args .b .event)) ≤ 85
 who-room c = who-le (c .args .b .originator) (c .args .b .event) (event-long c)
 
-where-room : (c : tie.Start) → length (joined (listed c)) ≤ 246
+where-room : (c : tie.Start) → length (locationWords (listed c)) ≤ 246
 where-room c = joined-le (listed c) (omega (arith, length-take (c .args .b .count) (c .args .b .locations), c .pre .1 .1))
 
 slice-aggregate-put-who : tie.Need-slice-aggregate-put-who
@@ -58,7 +58,7 @@ returns c =
     let at-put-who = at-put-joined .before .before .before .before .before in
     let start = at-put-who .before .before .before .before .before .before in
     let one = first (start .args .out .now) (start .args .at) (whoWords (start .args .b .originator) (start .args .b .event)) (at-put-who .put-who .ensures) in
-    let two = next one (joined (listed start)) (at-put-joined .put-joined .ensures) in
+    let two = next one (locationWords (listed start)) (at-put-joined .put-joined .ensures) in
     put-all (next two (whenWords (start .args .b .period) (start .args .b .day) (start .args .b .hour) (start .args .b .minute)) (c .before .before .put-when .ensures)) _ refl
 
 pub put-sentence-spec : {M : Type 1} → statement M

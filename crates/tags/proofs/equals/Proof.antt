@@ -11,7 +11,7 @@ use Rattle.octets.specs.Bytes.{byteAt, isSpace}
 use Rattle.octets.specs.Scan.{past}
 use Rattle.pieces.specs.declared.End.the-variants.{At, No}
 use Rattle.pieces.proofs.Words.{inside-is}
-use Rattle.tags.specs.Attributes.{valueAt, valued, equalled}
+use Rattle.tags.specs.Attributes.{quotedAt, attributeOf, equalled}
 use Rattle.tags.specs.declared.Attr.the-variants.{Of}
 use Rattle.tags.proofs.equals.Statement.{statement}
 use Rattle.tags.proofs.equals.Tie as tie
@@ -57,7 +57,7 @@ enum-told : tie.Need-enum-told
 enum-told c = search needs
 
 returns-2 : tie.Need-returns-2
-unfolding equalled valued
+unfolding equalled attributeOf
 returns-2 c =
     let s = now (c .before .before .before .before .before .before .before .before .before .args .s) in
     let j = c .before .before .before .before .before .before .before .before .before .args .j in
@@ -67,11 +67,11 @@ returns-2 c =
     let f : c .before .before .before .before .before .before .byte .result ≡ byteAt s q = cc in
     let v = past isSpace s (q + 1) in
     let m : c .before .before .before .before .spaces2 .result ≡ v = cc in
-    let w : valueAt s v ≡ At (c .before .w .given .0 .0) = ap (valueAt s) (sym m) ∙ sym (c .before .before .before .value .ensures) ∙ c .before .w .given .1 in
+    let w : quotedAt s v ≡ At (c .before .w .given .0 .0) = ap (quotedAt s) (sym m) ∙ sym (c .before .before .before .value .ensures) ∙ c .before .w .given .1 in
     rw (eq-eqb (byteAt s q) 61 (omega arith), w) (ap (λ (x : ℕ). Of j e x (c .before .w .given .0 .0)) m)
 
 returns-3 : tie.Need-returns-3
-unfolding equalled valued
+unfolding equalled attributeOf
 returns-3 c =
     let s = now (c .before .before .before .before .before .before .before .before .args .s) in
     let j = c .before .before .before .before .before .before .before .before .args .j in
@@ -81,7 +81,7 @@ returns-3 c =
     let f : c .before .before .before .before .before .byte .result ≡ byteAt s q = cc in
     let v = past isSpace s (q + 1) in
     let m : c .before .before .before .spaces2 .result ≡ v = cc in
-    let w : valueAt s v ≡ No = ap (valueAt s) (sym m) ∙ sym (c .before .before .value .ensures) ∙ c .enum-told .given .1 in
+    let w : quotedAt s v ≡ No = ap (quotedAt s) (sym m) ∙ sym (c .before .before .value .ensures) ∙ c .enum-told .given .1 in
     rw (eq-eqb (byteAt s q) 61 (omega arith), w)
 
 pub equals-spec : {M : Type 1} → statement M

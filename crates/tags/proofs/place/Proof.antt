@@ -7,7 +7,7 @@ use lib.ListN.{getD}
 use borrow.Author.Needs.{needs}
 use Rattle.octets.specs.Bytes.{same}
 use Rattle.pieces.specs.declared.End.the-variants.{At}
-use Rattle.tags.specs.WorkingTree.{nodes, turnOf, cellOf, nameOf}
+use Rattle.tags.specs.WorkingTree.{nodes, bitOf, cellOf, nodeName}
 use Rattle.tags.proofs.Trees.{turn-small, OnWay, way-starts, way-met, way-ends, way-moves}
 use Rattle.tags.proofs.place.Statement.{statement}
 use Rattle.tags.proofs.place.Tie as tie
@@ -19,8 +19,8 @@ abbrev μ-loop : tie.MeasureT-loop
 μ-loop s w t k₀ d₀ k d = nodes - k
 
 -- whether w is the node's name
-met : (c : tie.After-equal Inv-loop μ-loop) → c .equal .result ≡ same (nameOf (now (c .before .before .before .before .before .before .before .args .s)) (now (c .before .before .before .before .before .before .before .args .t)) (c .before .before .before .before .loop .k)) (now (c .before .before .before .before .before .before .before .args .w))
-unfolding nameOf
+met : (c : tie.After-equal Inv-loop μ-loop) → c .equal .result ≡ same (nodeName (now (c .before .before .before .before .before .before .before .args .s)) (now (c .before .before .before .before .before .before .before .args .t)) (c .before .before .before .before .loop .k)) (now (c .before .before .before .before .before .before .before .args .w))
+unfolding nodeName
 met c = c .equal .ensures ∙ rw (c .before .before .before .cell .ensures, c .before .before .cell2 .ensures)
 
 -- the node in the cell by which the way goes on
@@ -97,8 +97,8 @@ loop-less c =
     let k = c .before .before .before .before .before .before .before .before .loop .k in
     let d = c .before .before .before .before .before .before .before .before .loop .d in
     let x : c .before .cell3 .result ≡ getD (now (c .before .before .before .before .before .before .before .before .before .before .before .args .t)) (cellOf w d k) 0 = next (c .before) in
-    let y = c .before .before .before .before .before .before .before .before .before .before .before .pre .onto k (turnOf w d) (turn-small w d) in
-    let z = c .before .before .before .before .before .before .before .before .before .before .before .pre .rises k (turnOf w d) (turn-small w d) (omega arith) in
+    let y = c .before .before .before .before .before .before .before .before .before .before .before .pre .onto k (bitOf w d) (turn-small w d) in
+    let z = c .before .before .before .before .before .before .before .before .before .before .before .pre .rises k (bitOf w d) (turn-small w d) (omega arith) in
     omega arith
 
 loop-again : tie.Need-loop-again Inv-loop μ-loop

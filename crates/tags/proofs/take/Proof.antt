@@ -4,7 +4,7 @@ use native.Mathlib.Omega.{arith}
 use denote.Ref.{now}
 use borrow.Author.Needs.{needs}
 use Rattle.tags.specs.Attributes.{attrAt}
-use Rattle.tags.specs.Tags.{fresh, taken, takeAt}
+use Rattle.tags.specs.Tags.{unlessNamed, taken, takeAt}
 use Rattle.tags.specs.declared.Attr.the-variants.{Of, Last, None}
 use Rattle.tags.proofs.Goes.{attr-goes, AttrGoes}
 use Rattle.tags.proofs.take.Statement.{statement}
@@ -69,11 +69,11 @@ enum-told-3 : tie.Need-enum-told-3
 enum-told-3 c = search needs
 
 returns : tie.Need-returns
-unfolding takeAt taken fresh
+unfolding takeAt taken unlessNamed
 returns c = rw (read (c .before .before .before .before .before), sym (c .before .before .find .ensures) ∙ c .enum-told .given .1)
 
 returns-2 : tie.Need-returns-2
-unfolding takeAt taken fresh
+unfolding takeAt taken unlessNamed
 returns-2 c = rw (read (c .before .before .before .before .before), sym (c .before .before .find .ensures) ∙ c .enum-told2 .given .1)
 
 returns-3 : tie.Need-returns-3

@@ -1,5 +1,5 @@
 -- A shift divides by a power of 2.
-use Rattle.tags.specs.WorkingTree.{turnOf}
+use Rattle.tags.specs.WorkingTree.{bitOf}
 use borrow.Author.Needs.{needs}
 use Rattle.tags.proofs.turn.Statement.{statement}
 use Rattle.tags.proofs.turn.Tie as tie
@@ -17,7 +17,7 @@ cast-result-2 : tie.Need-cast-result-2
 cast-result-2 c = search needs
 
 returns : tie.Need-returns
-unfolding turnOf
+unfolding bitOf
 returns c = rw (c .byte .ensures)
 
 pub turn-spec : {M : Type 1} → statement M

@@ -9,7 +9,7 @@ use borrow.Author.Tests.{eq-eqb, ne-eqb}
 use borrow.Author.Needs.{needs}
 use Rattle.octets.specs.Bytes.{byteAt}
 use Rattle.pieces.proofs.Words.{inside-is}
-use Rattle.tags.specs.Attributes.{valueAt}
+use Rattle.tags.specs.Attributes.{quotedAt}
 use Rattle.tags.proofs.value.Statement.{statement}
 use Rattle.tags.proofs.value.Tie as tie
 
@@ -35,7 +35,7 @@ quoted-requires c κs =
     (omega arith, lit< tt)
 
 returns : tie.Need-returns
-unfolding valueAt
+unfolding quotedAt
 returns c =
     let s = now (c .before .before .before .before .args .s) in
     let i = c .before .before .before .before .args .at in
@@ -62,7 +62,7 @@ quoted-requires-2 c κs =
     (omega arith, lit< tt)
 
 returns-2 : tie.Need-returns-2
-unfolding valueAt
+unfolding quotedAt
 returns-2 c =
     let s = now (c .before .before .before .before .before .args .s) in
     let i = c .before .before .before .before .before .args .at in
@@ -71,7 +71,7 @@ returns-2 c =
     rw (ne-eqb b 34 (omega arith), eq-eqb b 39 (omega arith)) (c .quoted2 .ensures)
 
 returns-3 : tie.Need-returns-3
-unfolding valueAt
+unfolding quotedAt
 returns-3 c =
     let s = now (c .before .before .before .before .args .s) in
     let i = c .before .before .before .before .args .at in

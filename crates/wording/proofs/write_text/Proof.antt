@@ -10,7 +10,7 @@ use Rattle.sentence.proofs.Puts.{first, next}
 use Rattle.sentence.specs.Words.{sentenceOf}
 use Rattle.values.specs.Value.{valueAt}
 use Rattle.wording.proofs.Texts.{put-start, phrase-le, front, text-eas, text-parts}
-use Rattle.wording.specs.Text.{after, phrase, partsOf}
+use Rattle.wording.specs.Text.{afterSpace, phrase, lastParts}
 use borrow.Author.Needs.{needs}
 use Rattle.wording.proofs.write_text.Statement.{statement}
 use Rattle.wording.proofs.write_text.Tie as tie
@@ -84,9 +84,9 @@ returns-2 c =
     let vi = value start (start .args .instruction) in
     let text = text-parts (sentenceOf (start .args .b)) (value start (start .args .eas)) (value start (start .args .sender)) vd vi (sym (at-is-empty .is-empty .ensures) ∙ not-false _ (at-if1 .if1 .left)) in
     let one = first (start .args .out .now) 0 (sentenceOf (start .args .b)) (at-put-sentence .put-sentence .ensures) in
-    let two = next one (after (phrase (value start (start .args .sender)))) (at-put-phrase .put-phrase .ensures) in
+    let two = next one (afterSpace (phrase (value start (start .args .sender)))) (at-put-phrase .put-phrase .ensures) in
     let n : at-put-phrase .put-phrase .result ≡ length (front (sentenceOf (start .args .b)) (value start (start .args .sender))) = omega (arith, two .ends) in
-    put-start (next two (partsOf (at-put-phrase .put-phrase .result) vd vi) (c .before .before .put-parts .ensures)) _ (text ∙ ap (λ (k : ℕ). front (sentenceOf (start .args .b)) (value start (start .args .sender)) ++ partsOf k vd vi) (sym n))
+    put-start (next two (lastParts (at-put-phrase .put-phrase .result) vd vi) (c .before .before .put-parts .ensures)) _ (text ∙ ap (λ (k : ℕ). front (sentenceOf (start .args .b)) (value start (start .args .sender)) ++ lastParts k vd vi) (sym n))
 
 pub write-text-spec : {M : Type 1} → statement M
 write-text-spec =
