@@ -21,10 +21,10 @@ leaf name text = element name (bytes text)
 
 -- an eventCode, a parameter or a geocode
 abbrev pub pairElement : String → String → String → List ℕ
-pairElement name valueName leafInPlace = element name (leaf "valueName" valueName ++ leaf "value" leafInPlace)
+pairElement name valueName value = element name (leaf "valueName" valueName ++ leaf "value" value)
 
 abbrev pub parameterElement : String → String → List ℕ
-parameterElement valueName leafInPlace = pairElement "parameter" valueName leafInPlace
+parameterElement valueName value = pairElement "parameter" valueName value
 
 abbrev pub geocodeElement : String → List ℕ
 geocodeElement code = pairElement "geocode" "SAME" code
