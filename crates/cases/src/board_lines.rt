@@ -25,7 +25,7 @@ fn offer_to(board: &mut [u8], message: &[u8], out: &mut [u8]) -> usize {
     crate::lines::put_bytes(out, added, board)
 }
 
-pub fn offer(asked: &[u8], out: &mut [u8]) -> usize {
+pub(crate) fn offer(asked: &[u8], out: &mut [u8]) -> usize {
     let message_at = crate::lines::next_field(asked, 0);
     let mut board = [0u8; ROOM];
     let mut message = [0u8; ROOM];
@@ -53,7 +53,7 @@ fn hand_out_of(board: &mut [u8], out: &mut [u8]) -> usize {
     crate::lines::put_bytes(out, index, board)
 }
 
-pub fn hand_out(asked: &[u8], out: &mut [u8]) -> usize {
+pub(crate) fn hand_out(asked: &[u8], out: &mut [u8]) -> usize {
     let mut board = [0u8; ROOM];
     let b = crate::lines::unhex(asked, &mut board);
     if !b.ok {
@@ -107,7 +107,7 @@ fn list_of(board: &[u8], cap: usize, out: &mut [u8]) -> usize {
     put_rows(out, end, rows, answer.count)
 }
 
-pub fn list(asked: &[u8], out: &mut [u8]) -> usize {
+pub(crate) fn list(asked: &[u8], out: &mut [u8]) -> usize {
     let cap_at = crate::lines::next_field(asked, 0);
     let Num::Value(cap) = crate::lines::cap(crate::lines::last_field(asked, cap_at)) else {
         return crate::lines::put(out, 0, b"?");

@@ -73,7 +73,7 @@ fn convert_with(message: &[u8], station: &[u8], v: Caps, out: &mut [u8]) -> usiz
     put_converted(out, c, &header, &text, &uri)
 }
 
-pub fn convert(asked: &[u8], out: &mut [u8]) -> usize {
+pub(crate) fn convert(asked: &[u8], out: &mut [u8]) -> usize {
     let station_at = crate::lines::next_field(asked, 0);
     let caps_at = crate::lines::next_field(asked, station_at);
     let v = three_caps(asked, caps_at);
@@ -100,7 +100,7 @@ pub fn convert(asked: &[u8], out: &mut [u8]) -> usize {
 
 // ---- program MESSAGE
 
-pub fn program(asked: &[u8], out: &mut [u8]) -> usize {
+pub(crate) fn program(asked: &[u8], out: &mut [u8]) -> usize {
     let mut message = [0u8; ROOM];
     let mut printed = [0u8; 4096];
     let m = crate::lines::unhex(asked, &mut message);

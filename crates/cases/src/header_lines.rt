@@ -50,7 +50,7 @@ fn put_parts(out: &mut [u8], at: usize, p: Parts) -> usize {
     put_station(out, times, station)
 }
 
-pub fn read(asked: &[u8], out: &mut [u8]) -> usize {
+pub(crate) fn read(asked: &[u8], out: &mut [u8]) -> usize {
     let mut bytes = [0u8; ROOM];
     let got = crate::lines::unhex(asked, &mut bytes);
     if !got.ok {
@@ -196,7 +196,7 @@ fn has_words(asked: &[u8]) -> bool {
     crate::lines::field(asked, locations_at).len() != 0
 }
 
-pub fn write(asked: &[u8], out: &mut [u8]) -> usize {
+pub(crate) fn write(asked: &[u8], out: &mut [u8]) -> usize {
     let event_at = crate::lines::next_field(asked, 0);
     let locations_at = crate::lines::next_field(asked, event_at);
     let numbers_at = crate::lines::next_field(asked, locations_at);

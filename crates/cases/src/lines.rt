@@ -18,7 +18,7 @@ pub struct Bytes {
 // ---- asked
 
 // Where the field that begins at `at` ends: at a space, or with s.
-pub fn field_end(s: &[u8], at: usize) -> usize {
+pub(crate) fn field_end(s: &[u8], at: usize) -> usize {
     let mut i = at;
     while i < s.len() {
         if s[i] == 32 {
@@ -30,7 +30,7 @@ pub fn field_end(s: &[u8], at: usize) -> usize {
 }
 
 // Where the field after that one begins; past the end where there is none.
-pub fn next_field(s: &[u8], at: usize) -> usize {
+pub(crate) fn next_field(s: &[u8], at: usize) -> usize {
     let end = field_end(s, at);
     if end < s.len() {
         return end + 1;
@@ -39,7 +39,7 @@ pub fn next_field(s: &[u8], at: usize) -> usize {
 }
 
 // Where the field begins that comes n fields after the one at `at`.
-pub fn skip(s: &[u8], at: usize, n: usize) -> usize {
+pub(crate) fn skip(s: &[u8], at: usize, n: usize) -> usize {
     let mut here = at;
     let mut left = n;
     while 0 < left {
@@ -50,7 +50,7 @@ pub fn skip(s: &[u8], at: usize, n: usize) -> usize {
 }
 
 // The bytes of s from `from` to `to`, as far as there are any.
-pub fn within(s: &[u8], from: usize, to: usize) -> &[u8] {
+pub(crate) fn within(s: &[u8], from: usize, to: usize) -> &[u8] {
     if s.len() < to {
         return &s[s.len()..];
     }
@@ -60,17 +60,17 @@ pub fn within(s: &[u8], from: usize, to: usize) -> &[u8] {
     &s[from..to]
 }
 
-pub fn field(s: &[u8], at: usize) -> &[u8] {
+pub(crate) fn field(s: &[u8], at: usize) -> &[u8] {
     within(s, at, field_end(s, at))
 }
 
 // The last field: all that is left, so that a further space is part of it and no field holds one.
-pub fn last_field(s: &[u8], at: usize) -> &[u8] {
+pub(crate) fn last_field(s: &[u8], at: usize) -> &[u8] {
     within(s, at, s.len())
 }
 
 // The first n bytes of s, or all where there are fewer.
-pub fn front(s: &[u8], n: usize) -> &[u8] {
+pub(crate) fn front(s: &[u8], n: usize) -> &[u8] {
     if n < s.len() {
         return &s[..n];
     }
@@ -78,7 +78,7 @@ pub fn front(s: &[u8], n: usize) -> &[u8] {
 }
 
 // The same of a slice that is lent to be written to.
-pub fn front_of(s: &mut [u8], n: usize) -> &mut [u8] {
+pub(crate) fn front_of(s: &mut [u8], n: usize) -> &mut [u8] {
     if n < s.len() {
         return &mut s[..n];
     }
@@ -86,7 +86,7 @@ pub fn front_of(s: &mut [u8], n: usize) -> &mut [u8] {
 }
 
 // What a hexadecimal digit counts, and 16 for what is none. Capitals are none.
-pub fn hex_digit(b: u8) -> u8 {
+pub(crate) fn hex_digit(b: u8) -> u8 {
     if octets::is_between(48, 57, b) {
         return b % 16;
     }
@@ -97,7 +97,7 @@ pub fn hex_digit(b: u8) -> u8 {
 }
 
 // The bytes that t writes in hexadecimal, `-` for none.
-pub fn unhex(t: &[u8], out: &mut [u8]) -> Bytes
+pub(crate) fn unhex(t: &[u8], out: &mut [u8]) -> Bytes
     ensures { λ r. ⌜ r .len ≤ length (now (out .exit)) ⌝ }
 {
     if octets::equal(t, b"-") {
@@ -130,7 +130,7 @@ pub fn unhex(t: &[u8], out: &mut [u8]) -> Bytes
 }
 
 // A decimal number of 1 to 9 digits.
-pub fn decimal(t: &[u8]) -> Num {
+pub(crate) fn decimal(t: &[u8]) -> Num {
     let n = t.len();
     if n == 0 {
         return Num::Bad;
@@ -142,7 +142,7 @@ pub fn decimal(t: &[u8]) -> Num {
 }
 
 // The length of an output that a line lends.
-pub fn cap(t: &[u8]) -> Num {
+pub(crate) fn cap(t: &[u8]) -> Num {
     let Num::Value(n) = decimal(t) else {
         return Num::Bad;
     };
@@ -154,7 +154,7 @@ pub fn cap(t: &[u8]) -> Num {
 
 // ---- answered: each puts its part at `at` and says where it ends, or puts nothing where it does not fit
 
-pub fn put(out: &mut [u8], at: usize, t: &[u8]) -> usize {
+pub(crate) fn put(out: &mut [u8], at: usize, t: &[u8]) -> usize {
     let n = t.len();
     if out.len() < at {
         return at;
@@ -166,7 +166,7 @@ pub fn put(out: &mut [u8], at: usize, t: &[u8]) -> usize {
     at + n
 }
 
-pub fn put_digits(out: &mut [u8], at: usize, n: usize, v: u32) -> usize {
+pub(crate) fn put_digits(out: &mut [u8], at: usize, n: usize, v: u32) -> usize {
     if out.len() < at {
         return at;
     }
@@ -178,7 +178,7 @@ pub fn put_digits(out: &mut [u8], at: usize, n: usize, v: u32) -> usize {
 }
 
 // How many digits v has.
-pub fn digits_of(v: u32) -> usize
+pub(crate) fn digits_of(v: u32) -> usize
     ensures { λ r. ⌜ r ≤ 10 ⌝ }
 {
     if v < 10 {
@@ -211,12 +211,12 @@ pub fn digits_of(v: u32) -> usize
     10
 }
 
-pub fn put_decimal(out: &mut [u8], at: usize, v: u32) -> usize {
+pub(crate) fn put_decimal(out: &mut [u8], at: usize, v: u32) -> usize {
     put_digits(out, at, digits_of(v), v)
 }
 
 // A hexadecimal digit of 0 to 15.
-pub fn hex_byte(d: u8) -> u8 {
+pub(crate) fn hex_byte(d: u8) -> u8 {
     if d < 10 {
         return 48 + d;
     }
@@ -224,7 +224,7 @@ pub fn hex_byte(d: u8) -> u8 {
 }
 
 // t in hexadecimal, `-` where it is empty.
-pub fn put_hex(out: &mut [u8], at: usize, t: &[u8]) -> usize {
+pub(crate) fn put_hex(out: &mut [u8], at: usize, t: &[u8]) -> usize {
     if t.len() == 0 {
         return put(out, at, b"-");
     }
@@ -245,13 +245,13 @@ pub fn put_hex(out: &mut [u8], at: usize, t: &[u8]) -> usize {
 }
 
 // A space and t in hexadecimal.
-pub fn put_bytes(out: &mut [u8], at: usize, t: &[u8]) -> usize {
+pub(crate) fn put_bytes(out: &mut [u8], at: usize, t: &[u8]) -> usize {
     let end = put(out, at, b" ");
     put_hex(out, end, t)
 }
 
 // A space and a decimal number.
-pub fn put_spaced(out: &mut [u8], at: usize, v: u32) -> usize {
+pub(crate) fn put_spaced(out: &mut [u8], at: usize, v: u32) -> usize {
     let end = put(out, at, b" ");
     put_decimal(out, end, v)
 }
@@ -266,7 +266,7 @@ fn put_location(out: &mut [u8], at: usize, k: usize, v: u32) -> usize {
 }
 
 // The first `count` locations, as six-digit codes joined by commas.
-pub fn put_locations(out: &mut [u8], at: usize, list: [u32; 31], count: usize) -> usize {
+pub(crate) fn put_locations(out: &mut [u8], at: usize, list: [u32; 31], count: usize) -> usize {
     let mut end = at;
     let mut k: usize = 0;
     while k < 31 {

@@ -162,7 +162,7 @@ fn put_found(s: &[u8], out: &mut [u8]) -> usize {
     put_alert(s, a, out, sent)
 }
 
-pub fn found(asked: &[u8], out: &mut [u8]) -> usize {
+pub(crate) fn found(asked: &[u8], out: &mut [u8]) -> usize {
     let mut bytes = [0u8; LONGEST];
     let got = crate::lines::unhex(asked, &mut bytes);
     if !got.ok {

@@ -241,6 +241,15 @@ messages =
     ∷ refusedLine (bytes "") "number 4 field 0"
     -- 5: an end tag repeats the name exactly
     ∷ refusedLine (bytes "<a><b></a>") "number 5 field 0"
+    -- the same attribute name twice is refused
+    ∷ refusedLine (brief (xml "language" "<z a='1' b='2' a='1'/>" ∷ [])) "number 5 field 0"
+    ∷ takenLine (brief (xml "language" "<z a='1' b='2' c='1'/>" ∷ []))
+    -- a name is 1 to 64 bytes
+    ∷ refusedLine (brief (inPlace "language" (bytes "<" ++ repeated 65 (bytes "z") ++ bytes "/>") ∷ [])) "number 5 field 0"
+    ∷ takenLine (brief (inPlace "language" (bytes "<" ++ repeated 64 (bytes "z") ++ bytes "/>") ∷ []))
+    -- `--` inside a comment is refused, at its end too
+    ∷ refusedLine (brief (xml "language" "<!-- a -- b -->" ∷ [])) "number 5 field 0"
+    ∷ refusedLine (brief (xml "language" "<!-- a --->" ∷ [])) "number 5 field 0"
     -- `]]>` in text and CDATA are refused
     ∷ refusedLine (brief (leafInPlace "description" "Wa]]>ter" ∷ [])) "number 5 field 0"
     ∷ refusedLine (brief (leafInPlace "description" "<![CDATA[Water]]>" ∷ [])) "number 5 field 0"
