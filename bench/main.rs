@@ -1,143 +1,85 @@
-//! bench MESSAGES SEED: our conversion and the independent converter's, on the same messages, in one run: so many generated ones, and the worst beside plain
-//! text. Every answer is compared: number, field, lengths, and every byte of the outputs. Nothing is said of times where two answers differ.
+//! bench MESSAGES SEED: our conversion, the independent converter's and a fast one's, on the same messages, in one run: so many generated ones, and the worst
+//! beside plain text. Every answer is compared: number, field, lengths, and every byte of the outputs; those to damaged copies too, which are not timed. Nothing is
+//! said of times where two answers differ. bench count CONVERTER MESSAGES SEED: only converts so many by one of them, and prints their bytes.
 
+mod converters;
+mod damage;
 mod messages;
+mod times;
 mod worst;
 
+use converters::{alike, Convert, Outputs, CONVERTERS, COUNT};
+use damage::damaged;
 use messages::{message, Numbers};
 use std::process::ExitCode;
-use std::time::{Duration, Instant};
+use std::time::Duration;
+use times::{timed, Times};
 
-extern "C" {
-    fn stuiverhaag_convert(
-        message: *const u8,
-        message_length: usize,
-        station: *const u8,
-        station_length: usize,
-        header: *mut u8,
-        header_length: usize,
-        text: *mut u8,
-        text_length: usize,
-        uri: *mut u8,
-        uri_length: usize,
-    ) -> u64;
-}
+/// How many messages are held at a time.
+const HELD: u64 = 200;
 
-const STATION: &[u8; 8] = b"BENCH/01";
+/// How many damaged copies of each are compared.
+const COPIES: usize = 2;
 
 /// Of the worst messages the median of so many conversions counts, and of as many more as end within this time.
 const ROUNDS: usize = 11;
-const WHILE: Duration = Duration::from_millis(500);
+const WHILE: Duration = Duration::from_millis(300);
 
-/// How many messages are held at a time: each is converted by one and then by the other.
-const HELD: usize = 1_000;
-
-#[derive(PartialEq)]
-struct Outputs {
-    header: [u8; 252],
-    text: [u8; 1800],
-    uri: [u8; 1024],
-}
-
-impl Outputs {
-    fn new() -> Outputs {
-        Outputs { header: [0; 252], text: [0; 1800], uri: [0; 1024] }
-    }
-
-    fn clear(&mut self) {
-        self.header.fill(0);
-        self.text.fill(0);
-        self.uri.fill(0);
-    }
-}
-
-/// What ours answers, packed as include/stuiverhaag.h says.
-fn ours(message: &[u8], out: &mut Outputs) -> u64 {
-    // SAFETY: each pointer is to as many bytes as its length says, and none of the slices overlap.
-    unsafe {
-        stuiverhaag_convert(
-            message.as_ptr(),
-            message.len(),
-            STATION.as_ptr(),
-            STATION.len(),
-            out.header.as_mut_ptr(),
-            out.header.len(),
-            out.text.as_mut_ptr(),
-            out.text.len(),
-            out.uri.as_mut_ptr(),
-            out.uri.len(),
-        )
-    }
-}
-
-/// What the independent converter answers, packed in the same way.
-fn theirs(message: &[u8], out: &mut Outputs) -> u64 {
-    match reference::convert(message, STATION, &mut out.header, &mut out.text, &mut out.uri) {
-        Ok(done) => {
-            (done.header as u64) << 16
-                | (done.audio as u64) << 24
-                | u64::from(done.carry) << 28
-                | (done.uri as u64) << 32
-                | (done.text as u64) << 48
-        }
-        Err(refusal) => u64::from(refusal.number) | u64::from(refusal.field) << 8,
-    }
-}
-
-type Convert = fn(&[u8], &mut Outputs) -> u64;
-
-fn timed(messages: &[Vec<u8>], out: &mut Outputs, convert: Convert) -> Duration {
-    let began = Instant::now();
-    for message in messages {
-        out.clear();
-        std::hint::black_box(convert(message, out));
-    }
-    began.elapsed()
-}
-
-/// The number that both answer to a message; none where their answers differ.
-fn alike(message: &[u8]) -> Option<u8> {
-    let (mut first, mut second) = (Outputs::new(), Outputs::new());
-    let (a, b) = (ours(message, &mut first), theirs(message, &mut second));
-    (a == b && first == second).then_some(a as u8)
-}
-
+/// Messages that were answered alike.
 #[derive(Default)]
 struct Tally {
     messages: usize,
     bytes: usize,
     zeros: usize,
-    ours: Duration,
-    theirs: Duration,
 }
 
 impl Tally {
-    /// Counts messages that are answered alike; says whether all are.
-    fn add(&mut self, messages: &[Vec<u8>]) -> bool {
-        messages.iter().all(|message| {
-            let number = alike(message);
-            self.messages += 1;
-            self.bytes += message.len();
-            self.zeros += usize::from(number == Some(0));
-            number.is_some()
-        })
+    fn add(&mut self, message: &[u8]) -> Result<(), String> {
+        let number = alike(message).ok_or("An answer differs: nothing is said of times.")?;
+        self.messages += 1;
+        self.bytes += message.len();
+        self.zeros += usize::from(number == 0);
+        Ok(())
+    }
+
+    /// One line; where all were answered 0, or all refused, next to nothing was compared.
+    fn print(&self, what: &str) -> Result<(), String> {
+        let refused = self.messages - self.zeros;
+        if self.zeros == 0 || refused == 0 {
+            return Err(format!(
+                "Of the {what} {} were answered 0, {refused} refused.",
+                self.zeros
+            ));
+        }
+        println!(
+            "{} {what} of {} bytes on average, {} answered 0, {refused} refused, all alike by all four",
+            self.messages,
+            self.bytes / self.messages,
+            self.zeros
+        );
+        Ok(())
     }
 }
 
-fn print(tally: &Tally) {
-    let rate = |time: Duration| tally.bytes as f64 / time.as_secs_f64() / 1e6;
-    let mean = tally.bytes / tally.messages;
-    println!(
-        "{} messages of {mean} bytes on average, {} answered 0, all answered alike",
-        tally.messages, tally.zeros
-    );
-    println!("ours:      {:7.1} ms, {:6.1} MB/s", tally.ours.as_secs_f64() * 1e3, rate(tally.ours));
-    println!(
-        "reference: {:7.1} ms, {:6.1} MB/s",
-        tally.theirs.as_secs_f64() * 1e3,
-        rate(tally.theirs)
-    );
-    println!("ratio: {:.2}", tally.ours.as_secs_f64() / tally.theirs.as_secs_f64());
+/// Generated messages and damaged copies of them are compared, and the generated ones timed.
+fn measure(count: u64, seed: u64) -> Result<(), String> {
+    let mut numbers = Numbers::new(seed);
+    let (mut whole, mut broken) = (Tally::default(), Tally::default());
+    let (mut times, mut out) = (Times::default(), Outputs::new());
+    for _ in 0..count.div_ceil(HELD) {
+        let held: Vec<Vec<u8>> = (0..HELD).map(|_| message(&mut numbers)).collect();
+        for message in &held {
+            whole.add(message)?;
+            for _ in 0..COPIES {
+                broken.add(&damaged(message, &mut numbers))?;
+            }
+        }
+        times.add(&held, &mut out);
+    }
+    whole.print("messages")?;
+    broken.print("damaged copies")?;
+    times.print();
+    Ok(())
 }
 
 /// The median time of a conversion.
@@ -153,51 +95,72 @@ fn median(message: &Vec<u8>, convert: Convert) -> Duration {
     times[times.len() / 2]
 }
 
-/// Prints how many times as long as plain text of their length the worst messages take; says whether both answered 0 to each.
-fn print_worst() -> bool {
+/// Prints how many times as long as plain text of their length the worst messages take.
+fn measure_worst() -> Result<(), String> {
     let (plain, worst) = (worst::plain(), worst::messages());
-    let all = worst.iter().map(|(_, message)| message).chain([&plain]);
-    if !all.map(|message| alike(message)).all(|number| number == Some(0)) {
-        return false;
+    let mut all = worst.iter().map(|(_, message)| message).chain([&plain]);
+    if !all.all(|message| alike(message) == Some(0)) {
+        return Err("One of the worst messages is not answered 0 by all, and alike.".to_string());
     }
-    let (ours_plain, theirs_plain) = (median(&plain, ours), median(&plain, theirs));
-    let ratio = |time: Duration, plain: Duration| time.as_secs_f64() / plain.as_secs_f64();
-    println!("messages of {} bytes, median times", plain.len());
-    println!("{:37}{:>11}{:>11}", "", "ours", "reference");
-    println!("{:37}{ours_plain:>11.1?}{theirs_plain:>11.1?}", "plain text");
+    let of_plain = CONVERTERS.map(|(_, convert)| median(&plain, convert));
+    println!("messages of {} bytes, median times; the others beside plain text", plain.len());
+    print_row("", CONVERTERS.map(|(name, _)| name.to_string()));
+    print_row("plain text", of_plain.map(|time| format!("{time:.1?}")));
     for (name, message) in &worst {
-        let by_ours = ratio(median(message, ours), ours_plain);
-        let by_theirs = ratio(median(message, theirs), theirs_plain);
-        println!("{name:37}{by_ours:9.2} x{by_theirs:9.2} x");
+        let mut place = 0;
+        let beside = CONVERTERS.map(|(_, convert)| {
+            let ratio = median(message, convert).as_secs_f64() / of_plain[place].as_secs_f64();
+            place += 1;
+            format!("{ratio:.2} x")
+        });
+        print_row(name, beside);
     }
-    true
+    Ok(())
+}
+
+fn print_row(name: &str, columns: [String; COUNT]) {
+    let columns = columns.map(|column| format!("{column:>11}"));
+    println!("{name:37}{}", columns.concat());
+}
+
+/// The call whose instructions are counted: one for all messages, so that the counting begins once and ends once.
+#[no_mangle]
+#[inline(never)]
+pub fn counted_conversions(convert: Convert, messages: &[Vec<u8>], out: &mut Outputs) {
+    for message in messages {
+        std::hint::black_box(convert(message, out));
+    }
+}
+
+/// Converts by one converter alone, and prints how many bytes.
+fn count(name: &str, count: u64, seed: u64) -> Result<(), String> {
+    let found = CONVERTERS.iter().find(|(known, _)| *known == name);
+    let (_, convert) = found.ok_or("There is no such converter.")?;
+    let mut numbers = Numbers::new(seed);
+    let messages: Vec<Vec<u8>> = (0..count).map(|_| message(&mut numbers)).collect();
+    counted_conversions(*convert, &messages, &mut Outputs::new());
+    println!("{}", messages.iter().map(Vec::len).sum::<usize>());
+    Ok(())
+}
+
+fn run(words: &[String]) -> Result<(), String> {
+    let number = |word: &String| word.parse::<u64>().map_err(|_| format!("{word} is no number."));
+    match words {
+        [messages, seed] => {
+            measure(number(messages)?, number(seed)?)?;
+            measure_worst()
+        }
+        [word, name, messages, seed] if word == "count" => {
+            count(name, number(messages)?, number(seed)?)
+        }
+        _ => Err("Give the number of messages and the seed.".to_string()),
+    }
 }
 
 fn main() -> ExitCode {
-    let asked: Vec<u64> = std::env::args().skip(1).filter_map(|word| word.parse().ok()).collect();
-    let [count, seed] = asked[..] else {
-        eprintln!("Give the number of messages and the seed.");
-        return ExitCode::FAILURE;
-    };
-    let mut numbers = Numbers::new(seed);
-    let mut tally = Tally::default();
-    let mut out = Outputs::new();
-    while (tally.messages as u64) < count {
-        let held: Vec<Vec<u8>> = (0..HELD).map(|_| message(&mut numbers)).collect();
-        if !tally.add(&held) {
-            eprintln!("An answer differs: nothing is measured.");
-            return ExitCode::FAILURE;
-        }
-        tally.ours += timed(&held, &mut out, ours);
-        tally.theirs += timed(&held, &mut out, theirs);
-    }
-    if tally.zeros == 0 {
-        eprintln!("No message was answered 0: nothing was compared.");
-        return ExitCode::FAILURE;
-    }
-    print(&tally);
-    if !print_worst() {
-        eprintln!("One of the worst messages is not answered 0 by both.");
+    let words: Vec<String> = std::env::args().skip(1).collect();
+    if let Err(why) = run(&words) {
+        eprintln!("{why}");
         return ExitCode::FAILURE;
     }
     ExitCode::SUCCESS

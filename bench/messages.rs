@@ -16,7 +16,7 @@ impl Numbers {
     }
 
     /// A number below `most`.
-    fn below(&mut self, most: u64) -> u64 {
+    pub fn below(&mut self, most: u64) -> u64 {
         (self.next() >> 11) % most
     }
 
