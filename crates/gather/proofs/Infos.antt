@@ -24,8 +24,7 @@ use Rattle.reads.specs.declared.Alert.{Alert}
 use Rattle.reads.specs.declared.State.{State}
 use Rattle.reads.specs.declared.Context.{Context}
 use Rattle.reads.specs.declared.Context.the-variants as ctx
-use Rattle.gather.specs.declared.Touch.the-variants.{Holds}
-use Rattle.gather.specs.WorkingVisit.{touchIn, pairAdded, pairLeft, left, contextIn, visit}
+use Rattle.gather.specs.WorkingVisit.{Holds, touchIn, pairAdded, pairLeft, left, contextIn, visit}
 use Rattle.gather.specs.Read.{nameIn, named}
 use Rattle.gather.specs.WorkingRead.{placeIn, withLeaf, withLeaves, leafIn, withEvent, withParameter, withGeocode, withResource, withArea, infoOf}
 use Rattle.gather.proofs.Leaves.{state, el, blanks, Match, here, later, none, match, info-leaf, pair-leaf, step, passes}

@@ -3,3 +3,5 @@ pub mod Infos
 pub mod Selects
 pub mod Gathers
 pub mod Passes
+pub mod Slots
+pub mod Ends

@@ -1,3 +1,4 @@
 pub mod WorkingVisit
+pub mod WorkingLentVisit
 pub mod Read
 pub mod WorkingRead

@@ -1,9 +1,8 @@
-// One forward pass over a message, which gathers what stands in it of all that document 01 reads.
+// One forward pass over a message, which gathers what stands in it of all that document 01 reads. The state is lent, and changed in place.
+use octets::Num;
 use pieces::End;
 use pieces::Piece;
-use reads::Alert;
 use reads::Context;
-use reads::Info;
 use reads::Leaf;
 use reads::State;
 use tags::Open;
@@ -12,13 +11,12 @@ ghost use Prim.Native.Nat.{_+_, _≤_, _<_};
 ghost use lib.ListN.{length};
 ghost use Rattle.tags.specs.Tags.{closeAt};
 ghost use Rattle.markup.specs.Tree.{elemAt, contentAt};
-ghost use Rattle.gather.specs.WorkingVisit.{touched, touchAlert, touchInfo, touchPair, touchIn, pairAdded, pairLeft, infoLeft, laterLeft, left, leafPlace, nothingGot, settled, finished, gotOne, gotHeld};
-
-// What is learnt of a leaf: that it holds an element, or that one more stands, whose value begins at a place.
-pub enum Touch {
-    Holds,
-    Stands(usize),
-}
+ghost use Rattle.reads.specs.WorkingLeaves.{nothingRead};
+ghost use Rattle.reads.specs.WorkingSteps.{locationStep, english, languageFault};
+ghost use Rattle.reads.specs.declared.Context.the-variants.{EventCode, Parameter, Geocode, Resource};
+ghost use Rattle.lent.specs.WorkingLent.{numberIn, isSet, lentLeaf, lentLocations, lentSize, lentState, ButFor};
+ghost use Rattle.gather.specs.WorkingVisit.{Holds, Stands, touchIn, pairLeft, infoLeft, laterLeft, left, leafPlace, settled, finished, gotOne, gotHeld};
+ghost use Rattle.gather.specs.WorkingLentVisit.{slotIn, slotOf, chosen, gotIn};
 
 // Where what is read ends, and what is gathered with it.
 pub struct Got {
@@ -26,219 +24,227 @@ pub struct Got {
     pub state: State,
 }
 
-fn refuse(n: usize) -> Got
-    ensures { λ r. ⌜ r ≡ nothingGot n ⌝ }
+// ---- entering an element, and leaving a leaf
+
+// Where leaf k of n stands that begin at `from`; behind the state where there is none.
+fn slot_in(from: usize, n: usize, k: usize) -> usize
+    requires { ⌜ (from ≤ lentSize) × (n ≤ 7) ⌝ }
+    ensures { λ r. ⌜ r ≡ slotIn from n k ⌝ }
 {
-    Got {
-        end: End::No,
-        state: reads::new_state(n),
+    if k < n {
+        return from + 3 * k;
     }
+    lent::SIZE
 }
 
-// ---- entering and leaving an element
-
-fn touched_leaf(l: Leaf, t: Touch) -> Leaf
-    ensures { λ r. ⌜ r ≡ touched t l ⌝ }
+// Where the leaf of a context stands in the state; behind it where it is none.
+fn slot_of(c: Context) -> usize
+    ensures { λ r. ⌜ r ≡ slotOf c ⌝ }
 {
-    match t {
-        Touch::Holds => reads::mark(l),
-        Touch::Stands(at) => reads::find(l, at),
-    }
-}
-
-fn touch_alert(a: Alert, k: usize, t: Touch) -> Alert
-    ensures { λ r. ⌜ r ≡ touchAlert t k a ⌝ }
-{
-    let mut b = a;
-    if k < 7 {
-        let l = b.leaf[k];
-        b.leaf[k] = touched_leaf(l, t);
-        return b;
-    }
-    b
-}
-
-fn touch_info(i: Info, k: usize, t: Touch) -> Info
-    ensures { λ r. ⌜ r ≡ touchInfo t k i ⌝ }
-{
-    let mut j = i;
-    if k < 5 {
-        let l = j.leaf[k];
-        j.leaf[k] = touched_leaf(l, t);
-        return j;
-    }
-    j
-}
-
-fn touch_pair(p: [Leaf; 2], k: usize, t: Touch) -> [Leaf; 2]
-    ensures { λ r. ⌜ r ≡ touchPair t k p ⌝ }
-{
-    let mut q = p;
-    if k < 2 {
-        let l = q[k];
-        q[k] = touched_leaf(l, t);
-        return q;
-    }
-    q
-}
-
-// Touches the leaf of the context c; where c is no leaf, nothing.
-fn touch_leaf(c: Context, t: Touch, st: State) -> State
-    ensures { λ r. ⌜ r ≡ touchIn t c st ⌝ }
-{
-    let a = st.alert;
-    let i = st.info;
-    let p = st.pair;
     match c {
-        Context::AlertLeaf(k) => State {
-            alert: touch_alert(a, k, t),
-            info: i,
-            pair: p,
-        },
-        Context::InfoLeaf(k) => State {
-            alert: a,
-            info: touch_info(i, k, t),
-            pair: p,
-        },
-        Context::PairLeaf(k) => State {
-            alert: a,
-            info: i,
-            pair: touch_pair(p, k, t),
-        },
-        Context::Root => st,
-        Context::Alert => st,
-        Context::Info => st,
-        Context::Later => st,
-        Context::EventCode => st,
-        Context::Parameter => st,
-        Context::Resource => st,
-        Context::Area => st,
-        Context::Geocode => st,
-        Context::Skipped => st,
+        Context::AlertLeaf(k) => slot_in(0, 7, k),
+        Context::InfoLeaf(k) => slot_in(lent::INFO, 5, k),
+        Context::PairLeaf(k) => slot_in(lent::PAIR, 2, k),
+        Context::Root => lent::SIZE,
+        Context::Alert => lent::SIZE,
+        Context::Info => lent::SIZE,
+        Context::Later => lent::SIZE,
+        Context::EventCode => lent::SIZE,
+        Context::Parameter => lent::SIZE,
+        Context::Resource => lent::SIZE,
+        Context::Area => lent::SIZE,
+        Context::Geocode => lent::SIZE,
+        Context::Skipped => lent::SIZE,
     }
 }
 
-// An element of the context k with two leaves ends: what it adds to its info.
-fn add_pair(s: &[u8], k: Context, i: Info, first: Leaf, second: Leaf) -> Info
-    ensures { λ r. ⌜ r ≡ pairAdded (now (s .entry)) k i first second ⌝ }
+// Marks the leaf of the context c, in which an element stands; where c is no leaf, nothing.
+fn mark_in(c: Context, st: &mut [usize])
+    requires { ⌜ length (now st) ≡ lentSize ⌝ }
+    ensures { λ _. ⌜ length (now (st .exit)) ≡ lentSize ⌝ }
+    ensures { λ _. ⌜ lentState (now (st .exit)) ≡ touchIn Holds c (lentState (now (st .entry))) ⌝ }
 {
-    let mut j = i;
-    match k {
-        Context::EventCode => {
-            let e = j.events;
-            j.events = reads::event_step(s, e, first, second);
-            j
-        }
-        Context::Parameter => {
-            let e = j.parameters;
-            j.parameters = reads::parameter_step(s, e, first, second);
-            j
-        }
-        Context::Geocode => {
-            let e = j.locations;
-            j.locations = reads::location_step(s, e, first, second);
-            j
-        }
-        Context::Resource => {
-            let e = j.audio;
-            j.audio = reads::audio_step(s, e, first, second);
-            j
-        }
-        Context::Root => j,
-        Context::Alert => j,
-        Context::Info => j,
-        Context::Later => j,
-        Context::Area => j,
-        Context::AlertLeaf(_) => j,
-        Context::InfoLeaf(_) => j,
-        Context::PairLeaf(_) => j,
-        Context::Skipped => j,
+    let a = slot_of(c);
+    if a < lent::SIZE {
+        let l = lent::leaf_at(st, a);
+        lent::put_leaf(st, a, reads::mark(l));
     }
 }
 
-fn leave_pair(s: &[u8], k: Context, st: State) -> State
-    ensures { λ r. ⌜ r ≡ pairLeft (now (s .entry)) k st ⌝ }
+// One more leaf of the context c stands, whose value begins at `at`.
+fn stand_in(c: Context, at: usize, st: &mut [usize])
+    requires { ⌜ length (now st) ≡ lentSize ⌝ }
+    ensures { λ _. ⌜ length (now (st .exit)) ≡ lentSize ⌝ }
+    ensures { λ _. ⌜ lentState (now (st .exit)) ≡ touchIn (Stands at) c (lentState (now (st .entry))) ⌝ }
 {
-    let a = st.alert;
-    let i = st.info;
-    let p = st.pair;
-    let first = p[0];
-    let second = p[1];
-    let l = reads::no_leaf(s.len());
-    State {
-        alert: a,
-        info: add_pair(s, k, i, first, second),
-        pair: [l, l],
+    let a = slot_of(c);
+    if a < lent::SIZE {
+        let l = lent::leaf_at(st, a);
+        lent::put_leaf(st, a, reads::find(l, at));
     }
 }
 
-fn leave_info(s: &[u8], st: State) -> State
-    ensures { λ r. ⌜ r ≡ infoLeft (now (s .entry)) st ⌝ }
+// ---- the end of an element that is no leaf
+
+fn leave_event(s: &[u8], st: &mut [usize])
+    requires { ⌜ length (now st) ≡ lentSize ⌝ }
+    ensures { λ _. ⌜ length (now (st .exit)) ≡ lentSize ⌝ }
+    ensures { λ _. ⌜ lentState (now (st .exit)) ≡ pairLeft (now (s .entry)) EventCode (lentState (now (st .entry))) ⌝ }
 {
-    let a = st.alert;
-    let i = st.info;
-    let p = st.pair;
-    State {
-        alert: reads::info_step(s, a, i),
-        info: reads::no_info(s.len()),
-        pair: p,
+    let x = lent::leaf_at(st, lent::PAIR);
+    let y = lent::leaf_at(st, lent::PAIR + 3);
+    let e = lent::events_at(st, lent::EVENTS);
+    lent::put_events(st, lent::EVENTS, reads::event_step(s, e, x, y));
+    lent::clear_pair(st, s.len());
+}
+
+fn leave_parameter(s: &[u8], st: &mut [usize])
+    requires { ⌜ length (now st) ≡ lentSize ⌝ }
+    ensures { λ _. ⌜ length (now (st .exit)) ≡ lentSize ⌝ }
+    ensures { λ _. ⌜ lentState (now (st .exit)) ≡ pairLeft (now (s .entry)) Parameter (lentState (now (st .entry))) ⌝ }
+{
+    let x = lent::leaf_at(st, lent::PAIR);
+    let y = lent::leaf_at(st, lent::PAIR + 3);
+    let e = lent::parameters_at(st, lent::PARAMETERS);
+    lent::put_parameters(st, lent::PARAMETERS, reads::parameter_step(s, e, x, y));
+    lent::clear_pair(st, s.len());
+}
+
+fn leave_resource(s: &[u8], st: &mut [usize])
+    requires { ⌜ length (now st) ≡ lentSize ⌝ }
+    ensures { λ _. ⌜ length (now (st .exit)) ≡ lentSize ⌝ }
+    ensures { λ _. ⌜ lentState (now (st .exit)) ≡ pairLeft (now (s .entry)) Resource (lentState (now (st .entry))) ⌝ }
+{
+    let x = lent::leaf_at(st, lent::PAIR);
+    let y = lent::leaf_at(st, lent::PAIR + 3);
+    let e = lent::audio_at(st, lent::AUDIO);
+    lent::put_audio(st, lent::AUDIO, reads::audio_step(s, e, x, y));
+    lent::clear_pair(st, s.len());
+}
+
+fn leave_geocode(s: &[u8], st: &mut [usize])
+    requires { ⌜ length (now st) ≡ lentSize ⌝ }
+    ensures { λ _. ⌜ length (now (st .exit)) ≡ lentSize ⌝ }
+    ensures { λ _. ⌜ lentState (now (st .exit)) ≡ pairLeft (now (s .entry)) Geocode (lentState (now (st .entry))) ⌝ }
+{
+    let x = lent::leaf_at(st, lent::PAIR);
+    let y = lent::leaf_at(st, lent::PAIR + 3);
+    add_location(s, st, x, y);
+    lent::clear_pair(st, s.len());
+}
+
+// What a geocode adds to the locations, by its valueName and its value.
+fn add_location(s: &[u8], st: &mut [usize], name: Leaf, value: Leaf)
+    requires { ⌜ length (now st) ≡ lentSize ⌝ }
+    ensures { λ _. ⌜ ButFor (now (st .entry)) (now (st .exit)) 51 34 ⌝ }
+    ensures { λ _. ⌜ lentLocations (now (st .exit)) 51 ≡ locationStep (now (s .entry)) (lentLocations (now (st .entry)) 51) name value ⌝ }
+{
+    if !reads::is_pair(name, value) {
+        lent::put_bit(st, lent::LOCATIONS + 2, true);
+        return;
+    }
+    if !values::equal(s, name.at, b"SAME") {
+        return;
+    }
+    let v = values::six_digits(s, value.at);
+    match v {
+        Num::Value(n) => lent::place_location(st, lent::LOCATIONS, n),
+        Num::Bad => lent::put_bit(st, lent::LOCATIONS + 1, true),
     }
 }
 
-fn leave_later(n: usize, st: State) -> State
-    ensures { λ r. ⌜ r ≡ laterLeft n st ⌝ }
+// The language of the info that has been read: the alert is at fault where it is.
+fn fault_language(st: &mut [usize])
+    requires { ⌜ length (now st) ≡ lentSize ⌝ }
+    ensures { λ _. ⌜ ButFor (now (st .entry)) (now (st .exit)) 22 1 ⌝ }
+    ensures { λ _. ⌜ isSet (numberIn (now (st .exit)) 22) ≡ languageFault (lentState (now (st .entry)) .alert) (lentState (now (st .entry)) .info) ⌝ }
 {
-    let a = st.alert;
-    let i = st.info;
-    let p = st.pair;
-    State {
-        alert: reads::later_step(a, i),
-        info: reads::no_info(n),
-        pair: p,
+    let l = lent::leaf_at(st, lent::INFO);
+    if !reads::is_sound(l) {
+        lent::put_bit(st, lent::FAULT, true);
     }
+}
+
+// An info that has been read whole, before one is selected.
+fn leave_info(s: &[u8], st: &mut [usize])
+    requires { ⌜ length (now st) ≡ lentSize ⌝ }
+    ensures { λ _. ⌜ length (now (st .exit)) ≡ lentSize ⌝ }
+    ensures { λ _. ⌜ lentState (now (st .exit)) ≡ infoLeft (now (s .entry)) (lentState (now (st .entry))) ⌝ }
+{
+    let l = lent::leaf_at(st, lent::INFO);
+    fault_language(st);
+    choose_info(s, l, st);
+    lent::clear_info(st, s.len());
+}
+
+// The info that has been read is kept, if its language l selects it or it is the first.
+fn choose_info(s: &[u8], l: Leaf, st: &mut [usize])
+    requires { ⌜ length (now st) ≡ lentSize ⌝ }
+    ensures { λ _. ⌜ length (now (st .exit)) ≡ lentSize ⌝ }
+    ensures { λ _. ⌜ lentState (now (st .exit)) ≡ chosen (english (now (s .entry)) l) (lentState (now (st .entry))) ⌝ }
+{
+    if reads::is_english(s, l) {
+        lent::keep_info(st);
+        lent::put_number(st, lent::KEPT, 2);
+        return;
+    }
+    let kept = lent::kept_at(st);
+    if reads::is_nothing(kept) {
+        lent::keep_info(st);
+        lent::put_number(st, lent::KEPT, 1);
+    }
+}
+
+// An info behind the one that is selected: of it only the language is read.
+fn leave_later(n: usize, st: &mut [usize])
+    requires { ⌜ length (now st) ≡ lentSize ⌝ }
+    ensures { λ _. ⌜ length (now (st .exit)) ≡ lentSize ⌝ }
+    ensures { λ _. ⌜ lentState (now (st .exit)) ≡ laterLeft n (lentState (now (st .entry))) ⌝ }
+{
+    fault_language(st);
+    lent::clear_info(st, n);
 }
 
 // An element of the context k ends, whose value, if it is a leaf, begins at `at`.
-fn leave(s: &[u8], k: Context, at: usize, st: State) -> State
-    ensures { λ r. ⌜ r ≡ left (now (s .entry)) k at st ⌝ }
+fn leave(s: &[u8], k: Context, at: usize, st: &mut [usize])
+    requires { ⌜ length (now st) ≡ lentSize ⌝ }
+    ensures { λ _. ⌜ length (now (st .exit)) ≡ lentSize ⌝ }
+    ensures { λ _. ⌜ lentState (now (st .exit)) ≡ left (now (s .entry)) k at (lentState (now (st .entry))) ⌝ }
 {
     match k {
-        Context::EventCode => leave_pair(s, k, st),
-        Context::Parameter => leave_pair(s, k, st),
-        Context::Geocode => leave_pair(s, k, st),
-        Context::Resource => leave_pair(s, k, st),
+        Context::EventCode => leave_event(s, st),
+        Context::Parameter => leave_parameter(s, st),
+        Context::Geocode => leave_geocode(s, st),
+        Context::Resource => leave_resource(s, st),
         Context::Info => leave_info(s, st),
         Context::Later => leave_later(s.len(), st),
-        Context::AlertLeaf(_) => touch_leaf(k, Touch::Stands(at), st),
-        Context::InfoLeaf(_) => touch_leaf(k, Touch::Stands(at), st),
-        Context::PairLeaf(_) => touch_leaf(k, Touch::Stands(at), st),
-        Context::Root => st,
-        Context::Alert => st,
-        Context::Area => st,
-        Context::Skipped => st,
+        Context::AlertLeaf(_) => stand_in(k, at, st),
+        Context::InfoLeaf(_) => stand_in(k, at, st),
+        Context::PairLeaf(_) => stand_in(k, at, st),
+        Context::Root => return,
+        Context::Alert => return,
+        Context::Area => return,
+        Context::Skipped => return,
     }
 }
 
-// ---- the pass. Where there is no end, a state at hand is handed back: a fresh one would be written field by field wherever reading can fail.
+// ---- the pass. Where an element has no end, the state is whatever it is.
 
 // The end of an element that held what stands from b to e.
-fn finish(s: &[u8], at: usize, a: usize, b: usize, e: usize, k: Context, st: State) -> Got
+fn finish(s: &[u8], at: usize, a: usize, b: usize, e: usize, k: Context, st: &mut [usize]) -> End
     requires { ⌜ (at + 1 < a) × (a ≤ length (now s)) ⌝ }
-    ensures { λ r. ⌜ settled (length (now (s .entry))) r ≡ finished (length (now (s .entry))) (closeAt (now (s .entry)) at a e) (left (now (s .entry)) k (leafPlace (now (s .entry)) b e) st) ⌝ }
+    requires { ⌜ length (now st) ≡ lentSize ⌝ }
+    ensures { λ _. ⌜ length (now (st .exit)) ≡ lentSize ⌝ }
+    ensures { λ r. ⌜ settled (length (now (s .entry))) (gotIn r (now (st .exit))) ≡ finished (length (now (s .entry))) (closeAt (now (s .entry)) at a e) (left (now (s .entry)) k (leafPlace (now (s .entry)) b e) (lentState (now (st .entry)))) ⌝ }
 {
     let z = tags::close_tag(s, at, a, e);
     match z {
         End::At(q) => {
             let v = place(s, b, e);
-            Got {
-                end: End::At(q),
-                state: leave(s, k, v, st),
-            }
+            leave(s, k, v, st);
+            End::At(q)
         }
-        End::No => Got {
-            end: End::No,
-            state: st,
-        },
+        End::No => End::No,
     }
 }
 
@@ -252,96 +258,76 @@ fn place(s: &[u8], b: usize, e: usize) -> usize
     b
 }
 
-// The element at `at`, in the context c, under the root's prefix p: where it ends, and what is gathered with it.
-fn read_element(s: &[u8], p: &[u8], at: usize, depth: usize, c: Context, st: State) -> Got
-    ensures { λ r. ⌜ settled (length (now (s .entry))) r ≡ gotOne (now (s .entry)) (now (p .entry)) c st (elemAt (now (s .entry)) depth at) ⌝ }
+// The element at `at`, in the context c, under the root's prefix p: where it ends. What is gathered with it is in the state.
+fn read_element(s: &[u8], p: &[u8], at: usize, depth: usize, c: Context, st: &mut [usize]) -> End
+    requires { ⌜ length (now st) ≡ lentSize ⌝ }
+    ensures { λ _. ⌜ length (now (st .exit)) ≡ lentSize ⌝ }
+    ensures { λ r. ⌜ settled (length (now (s .entry))) (gotIn r (now (st .exit))) ≡ gotOne (now (s .entry)) (now (p .entry)) c (lentState (now (st .entry))) (elemAt (now (s .entry)) depth at) ⌝ }
 {
     if depth == 0 {
-        return Got {
-            end: End::No,
-            state: st,
-        };
+        return End::No;
     }
-    let alert = st.alert;
-    let kept = alert.kept;
     let o = tags::open_tag(s, at);
     match o {
-        Open::Shut => Got {
-            end: End::No,
-            state: st,
-        },
+        Open::Shut => End::No,
         Open::Empty(a, j) => {
-            let k = reads::context_of(s, p, at + 1, a, c, kept);
-            let t = touch_leaf(c, Touch::Holds, st);
-            Got {
-                end: End::At(j),
-                state: leave(s, k, s.len(), t),
-            }
+            let k = reads::context_of(s, p, at + 1, a, c, lent::kept_at(st));
+            mark_in(c, st);
+            leave(s, k, s.len(), st);
+            End::At(j)
         }
         Open::Full(a, j) => {
-            let k = reads::context_of(s, p, at + 1, a, c, kept);
-            let t = touch_leaf(c, Touch::Holds, st);
-            let g = read_content(s, p, j, depth - 1, k, t);
-            let e = g.end;
+            let k = reads::context_of(s, p, at + 1, a, c, lent::kept_at(st));
+            mark_in(c, st);
+            let e = read_content(s, p, j, depth - 1, k, st);
             match e {
-                End::At(q) => {
-                    let u = g.state;
-                    finish(s, at, a, j, q, k, u)
-                }
-                End::No => Got {
-                    end: End::No,
-                    state: st,
-                },
+                End::At(q) => finish(s, at, a, j, q, k, st),
+                End::No => End::No,
             }
         }
     }
 }
 
 // What an element holds that begins at `at`, in its context c.
-fn read_content(s: &[u8], p: &[u8], at: usize, depth: usize, c: Context, st: State) -> Got
-    ensures { λ r. ⌜ settled (length (now (s .entry))) r ≡ gotHeld (now (s .entry)) (now (p .entry)) c st (contentAt (now (s .entry)) depth at) ⌝ }
+fn read_content(s: &[u8], p: &[u8], at: usize, depth: usize, c: Context, st: &mut [usize]) -> End
+    requires { ⌜ length (now st) ≡ lentSize ⌝ }
+    ensures { λ _. ⌜ length (now (st .exit)) ≡ lentSize ⌝ }
+    ensures { λ r. ⌜ settled (length (now (s .entry))) (gotIn r (now (st .exit))) ≡ gotHeld (now (s .entry)) (now (p .entry)) c (lentState (now (st .entry))) (contentAt (now (s .entry)) depth at) ⌝ }
 {
     let mut i = at;
-    let mut t = st;
     loop {
         let x = pieces::next_piece(s, i);
         match x {
-            Piece::Bad => return Got {
-                end: End::No,
-                state: st,
-            },
-            Piece::Close => return Got {
-                end: End::At(i),
-                state: t,
-            },
+            Piece::Bad => return End::No,
+            Piece::Close => return End::At(i),
             Piece::Text(j) => i = j,
             Piece::Note(j) => i = j,
             Piece::Child => {
-                let g = read_element(s, p, i, depth, c, t);
-                let e = g.end;
+                let e = read_element(s, p, i, depth, c, st);
                 match e {
-                    End::At(j) => {
-                        i = j;
-                        t = g.state;
-                    }
-                    End::No => return Got {
-                        end: End::No,
-                        state: st,
-                    },
+                    End::At(j) => i = j,
+                    End::No => return End::No,
                 }
             }
         }
     }
 }
 
-// The element at `at`, as `read_element` answers it; where it does not end, nothing is gathered.
-pub fn element(s: &[u8], p: &[u8], at: usize, depth: usize, c: Context, st: State) -> Got
-    ensures { λ r. ⌜ r ≡ gotOne (now (s .entry)) (now (p .entry)) c st (elemAt (now (s .entry)) depth at) ⌝ }
+// The element at `at` in the context c: where it ends, and what is gathered with it; where it has no end, nothing.
+pub fn element(s: &[u8], p: &[u8], at: usize, depth: usize, c: Context) -> Got
+    ensures { λ r. ⌜ r ≡ gotOne (now (s .entry)) (now (p .entry)) c (nothingRead (length (now (s .entry)))) (elemAt (now (s .entry)) depth at) ⌝ }
 {
-    let g = read_element(s, p, at, depth, c, st);
-    let e = g.end;
+    let mut st = [0usize; lent::SIZE];
+    lent::clear(&mut st, s.len());
+    let e = read_element(s, p, at, depth, c, &mut st);
     match e {
-        End::At(_) => g,
-        End::No => refuse(s.len()),
+        End::At(q) => Got {
+            end: End::At(q),
+            state: lent::state_at(&st),
+        },
+        End::No => Got {
+            end: End::No,
+            state: reads::new_state(s.len()),
+        },
     }
 }

@@ -287,7 +287,7 @@ fn pass(s: &[u8], p: &[u8], i: usize, ok: bool) -> Message
     ensures { λ r. ⌜ r ≡ judgedRoot (now (s .entry)) (now (p .entry)) ok (rooted (now (s .entry)) (elemAt (now (s .entry)) 12 i)) ⌝ }
 {
     let n = s.len();
-    let g = gather::element(s, p, i, 12, root_context(ok), reads::new_state(n));
+    let g = gather::element(s, p, i, 12, root_context(ok));
     let e = g.end;
     let End::At(j) = e else {
         return refused(n, 5);

@@ -1,12 +1,11 @@
 // What document 01 reads in a message: the leaves and where they stand, what each element adds, and which elements are read where.
-use octets::Num;
 ghost use mathlib.Core.Path.{_≡_};
 ghost use mathlib.Core.Bool.{_||_};
 ghost use Prim.Native.Nat.{_≤_};
 ghost use lib.ListN.{length};
 ghost use Rattle.reads.specs.WorkingLeaves.{noLeaf, marked, found, soundOf, pairOk, noInfo, nothingRead};
 ghost use Rattle.reads.specs.Names.{localAt, alertContext, infoContext, laterContext, pairContext, resourceContext, areaContext, contextOf};
-ghost use Rattle.reads.specs.WorkingSteps.{eventStep, parameterStep, withLocation, locationStep, audioOf, audioStep, english, isNothing, infoStep, laterStep};
+ghost use Rattle.reads.specs.WorkingSteps.{eventStep, parameterStep, audioOf, audioStep, english, isNothing};
 
 // A leaf: where the value of the first begins, how often it stands (0, 1, and 2 for more), and whether one of them holds an element.
 pub struct Leaf {
@@ -354,7 +353,7 @@ pub fn context_of(s: &[u8], p: &[u8], from: usize, to: usize, c: Context, kept: 
     }
 }
 
-// ---- what an eventCode, a parameter, a geocode and a resource add, by their two leaves
+// ---- what an eventCode, a parameter and a resource add, by their two leaves
 
 pub fn event_step(s: &[u8], e: Events, name: Leaf, value: Leaf) -> Events
     ensures { λ r. ⌜ r ≡ eventStep (now (s .entry)) e name value ⌝ }
@@ -416,51 +415,6 @@ pub fn parameter_step(s: &[u8], e: Parameters, name: Leaf, value: Leaf) -> Param
         };
     }
     e
-}
-
-// One location more, of six digits, behind those that are placed.
-pub fn place_location(e: Locations, v: u32) -> Locations
-    ensures { λ r. ⌜ r ≡ withLocation e v ⌝ }
-{
-    let n = e.count;
-    let mut list = e.list;
-    if 31 <= n {
-        return e;
-    }
-    list[n] = v;
-    Locations {
-        count: n + 1,
-        list: list,
-        bad: e.bad,
-        fault: e.fault,
-    }
-}
-
-pub fn location_step(s: &[u8], e: Locations, name: Leaf, value: Leaf) -> Locations
-    ensures { λ r. ⌜ r ≡ locationStep (now (s .entry)) e name value ⌝ }
-{
-    let list = e.list;
-    if !is_pair(name, value) {
-        return Locations {
-            count: e.count,
-            list: list,
-            bad: e.bad,
-            fault: true,
-        };
-    }
-    if !values::equal(s, name.at, b"SAME") {
-        return e;
-    }
-    let v = values::six_digits(s, value.at);
-    match v {
-        Num::Value(n) => place_location(e, n),
-        Num::Bad => Locations {
-            count: e.count,
-            list: list,
-            bad: true,
-            fault: e.fault,
-        },
-    }
 }
 
 // The audio number of a mimeType, and 0 of any other.
@@ -541,39 +495,6 @@ pub fn is_nothing(k: Kept) -> bool
     }
 }
 
-// An info that has been read whole, before one is selected.
-pub fn info_step(s: &[u8], a: Alert, i: Info) -> Alert
-    ensures { λ r. ⌜ r ≡ infoStep (now (s .entry)) a i ⌝ }
-{
-    let leaf = a.leaf;
-    let kept = a.kept;
-    let info = a.info;
-    let language = i.leaf[LANGUAGE];
-    let fault = either(a.fault, !is_sound(language));
-    if is_english(s, language) {
-        return Alert {
-            leaf: leaf,
-            kept: Kept::Selected,
-            info: i,
-            fault: fault,
-        };
-    }
-    if is_nothing(kept) {
-        return Alert {
-            leaf: leaf,
-            kept: Kept::First,
-            info: i,
-            fault: fault,
-        };
-    }
-    Alert {
-        leaf: leaf,
-        kept: kept,
-        info: info,
-        fault: fault,
-    }
-}
-
 pub fn either(a: bool, b: bool) -> bool
     ensures { λ r. ⌜ r ≡ (a || b) ⌝ }
 {
@@ -581,20 +502,4 @@ pub fn either(a: bool, b: bool) -> bool
         return true;
     }
     b
-}
-
-// An info behind the one that is selected: of it only the language is read.
-pub fn later_step(a: Alert, i: Info) -> Alert
-    ensures { λ r. ⌜ r ≡ laterStep a i ⌝ }
-{
-    let leaf = a.leaf;
-    let kept = a.kept;
-    let info = a.info;
-    let language = i.leaf[LANGUAGE];
-    Alert {
-        leaf: leaf,
-        kept: kept,
-        info: info,
-        fault: either(a.fault, !is_sound(language)),
-    }
 }

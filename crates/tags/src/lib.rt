@@ -387,7 +387,18 @@ fn attributes(s: &[u8], at: usize) -> End
 
 // ---- tags
 
+// The rest of a start tag whose name ends at a: one that ends there is told at once.
 fn tail(s: &[u8], a: usize) -> Open
+    requires { ⌜ a ≤ length (now s) ⌝ }
+    ensures { λ r. ⌜ r ≡ tailAt (now (s .entry)) a ⌝ }
+{
+    if octets::byte(s, a) == 62 {
+        return Open::Full(a, a + 1);
+    }
+    whole_tail(s, a)
+}
+
+fn whole_tail(s: &[u8], a: usize) -> Open
     requires { ⌜ a ≤ length (now s) ⌝ }
     ensures { λ r. ⌜ r ≡ tailAt (now (s .entry)) a ⌝ }
 {

@@ -1,7 +1,7 @@
--- The end tag decides.
+-- The end of an element: its end tag, and what is left of it in the state.
 use mathlib.Core.Path.{sym, _∙_}
-use Rattle.gather.specs.WorkingVisit.{finished}
 use borrow.Author.Needs.{needs}
+use Rattle.gather.specs.WorkingVisit.{finished}
 use Rattle.gather.proofs.finish.Statement.{statement}
 use Rattle.gather.proofs.finish.Tie as tie
 
@@ -20,13 +20,22 @@ leave-requires c κs = search needs
 enum-told : tie.Need-enum-told
 enum-told c = search needs
 
+same-length : tie.Need-same-length
+same-length c = search needs
+
 returns : tie.Need-returns
 unfolding finished
-returns c = rw (sym (c .before .before .before .before .before .close-tag .ensures) ∙ c .before .before .before .z .given .1) (rw (c .leave .ensures, c .before .place .ensures))
+returns c =
+    let l = c .before .before .leave .ensures in
+    let v = c .before .before .before .before in
+    let z = v .before .before in
+    (l .0, rw (sym (z .before .before .close-tag .ensures) ∙ z .z .given .1, l .1, v .place .ensures))
 
 returns-2 : tie.Need-returns-2
 unfolding finished
-returns-2 c = rw (sym (c .before .before .close-tag .ensures) ∙ c .enum-told .given .1)
+returns-2 c =
+    let k = c .before .before in
+    (k .before .before .before .pre .1, rw (sym (k .close-tag .ensures) ∙ c .enum-told .given .1))
 
 pub finish-spec : {M : Type 1} → statement M
 finish-spec =
@@ -37,5 +46,6 @@ finish-spec =
     place-requires
     leave-requires
     enum-told
+    same-length
     returns
     returns-2)

@@ -1,6 +1,6 @@
 -- The root, what follows it, and then its number (Roots).
 use Prim.Native.Nat.{ℕ}
-use mathlib.Core.Path.{_≡_, sym, ap₂, _∙_}
+use mathlib.Core.Path.{_≡_, sym, ap, _∙_}
 use mathlib.Core.Bool.{Bool}
 use mathlib.Core.List.{List}
 use borrow.Author.Tests.{not-true, not-false}
@@ -11,7 +11,6 @@ use Rattle.markup.specs.Tree.{One, elemAt}
 use Rattle.markup.specs.Document.{miscAt}
 use Rattle.reads.specs.WorkingLeaves.{nothingRead}
 use Rattle.reads.specs.declared.Context.{Context}
-use Rattle.reads.specs.declared.State.{State}
 use Rattle.gather.specs.WorkingVisit.{gotOne}
 use Rattle.message.specs.WorkingMessage.{rootContext}
 use Rattle.message.proofs.Roots.{pass-none, pass-unended, pass-more, pass-other, pass-is}
@@ -22,21 +21,21 @@ use Rattle.message.proofs.pass.Tie as tie
 -- ---- behind the pass over the root
 
 abbrev bytes : tie.After-element → List ℕ
-bytes c = now (c .before .before .before .before .before .args .s)
+bytes c = now (c .before .before .before .before .args .s)
 
 abbrev prefix : tie.After-element → List ℕ
-prefix c = now (c .before .before .before .before .before .args .p)
+prefix c = now (c .before .before .before .before .args .p)
 
 abbrev isRoot : tie.After-element → Bool
-isRoot c = c .before .before .before .before .before .args .ok
+isRoot c = c .before .before .before .before .args .ok
 
 abbrev root : tie.After-element → One
-root c = elemAt (bytes c) 12 (c .before .before .before .before .before .args .i)
+root c = elemAt (bytes c) 12 (c .before .before .before .before .args .i)
 
 got : (c : tie.After-element) → c .element .result ≡ gotOne (bytes c) (prefix c) (rootContext (isRoot c)) (nothingRead (length (bytes c))) (root c)
 got c =
     c .element .ensures
-    ∙ ap₂ (λ (k : Context) (st : State). gotOne (bytes c) (prefix c) k st (root c)) (c .before .before .root-context .ensures) (c .before .new-state .ensures)
+    ∙ ap (λ (k : Context). gotOne (bytes c) (prefix c) k (nothingRead (length (bytes c))) (root c)) (c .before .root-context .ensures)
 
 -- ---- behind what follows it
 
@@ -48,9 +47,6 @@ follows c = sym (c .before .before .misc .ensures) ∙ c .m .given .1
 
 root-context-requires : tie.Need-root-context-requires
 root-context-requires c κs = search needs
-
-new-state-requires : tie.Need-new-state-requires
-new-state-requires c κs = search needs
 
 element-requires : tie.Need-element-requires
 element-requires c κs = search needs
@@ -130,7 +126,6 @@ pass-spec =
     tie.close
     (tie.spec
     root-context-requires
-    new-state-requires
     element-requires
     enum-known-e
     enum-told

@@ -1,0 +1,126 @@
+-- The state of the pass as numbers that are lent, one behind the other: from 0 the alert's seven leaves; 21 which info is kept; 22 the alert's fault; from 23 the
+-- two leaves of a pair; from 29 the info that is being read; from 95 the info that is kept. Every list of numbers is some state: only what it says is defined.
+use Prim.Native.Nat.{ℕ, zero, suc, _+_, _<_, _≤_}
+use mathlib.Core.Path.{_≡_}
+use mathlib.Core.Logic.{_⊎_}
+use mathlib.Core.Bool.{Bool, not}
+use mathlib.Core.List.{List, [], _∷_}
+use lib.ListN.{length, getD}
+use lib.Dec.{eqb, ltb}
+use Rattle.octets.specs.Bytes.{pick}
+use Rattle.reads.specs.declared.Leaf.{Leaf}
+use Rattle.reads.specs.declared.Events.{Events}
+use Rattle.reads.specs.declared.Parameters.{Parameters}
+use Rattle.reads.specs.declared.Locations.{Locations}
+use Rattle.reads.specs.declared.Audio.{Audio}
+use Rattle.reads.specs.declared.Info.{Info}
+use Rattle.reads.specs.declared.Kept.{Kept}
+use Rattle.reads.specs.declared.Kept.the-variants.{Nothing, First, Selected}
+use Rattle.reads.specs.declared.State.{State}
+
+-- ---- single numbers
+
+abbrev pub numberIn : List ℕ → ℕ → ℕ
+numberIn l a = getD l a 0
+
+-- one of 32 bits; a larger one does not occur, and is 0
+unfoldable pub narrow : ℕ → ℕ
+narrow n = pick (ltb n 4294967296) n 0
+
+-- 0 is no, and any other yes
+abbrev pub isSet : ℕ → Bool
+isSet n = not (eqb n 0)
+
+-- 0 is none, 1 the first, and any other the one that is selected
+unfoldable pub keptAs : ℕ → Kept
+keptAs n = pick (eqb n 0) Nothing (pick (eqb n 1) First Selected)
+
+-- ---- parts, from a place on
+
+-- a leaf, in three: where it begins, how often it stands, whether it holds an element
+abbrev pub lentLeaf : List ℕ → ℕ → Leaf
+lentLeaf l a = record { at = numberIn l a; count = narrow (numberIn l (a + 1)); holds = isSet (numberIn l (a + 2)) }
+
+-- n leaves
+unfoldable pub lentLeaves : ℕ → List ℕ → ℕ → List Leaf
+lentLeaves zero l a = []
+lentLeaves (suc n) l a = lentLeaf l a ∷ lentLeaves n l (a + 3)
+
+-- n numbers
+unfoldable pub lentNumbers : ℕ → List ℕ → ℕ → List ℕ
+lentNumbers zero l a = []
+lentNumbers (suc n) l a = narrow (numberIn l a) ∷ lentNumbers n l (a + 1)
+
+-- the eventCodes, in four
+abbrev pub lentEvents : List ℕ → ℕ → Events
+lentEvents l a = record { same = lentLeaf l a; fault = isSet (numberIn l (a + 3)) }
+
+-- the audio choice, in three
+abbrev pub lentAudio : List ℕ → ℕ → Audio
+lentAudio l a = record { uri = numberIn l a; number = narrow (numberIn l (a + 1)); fault = isSet (numberIn l (a + 2)) }
+
+-- the locations, in 34
+abbrev pub lentLocations : List ℕ → ℕ → Locations
+lentLocations l a = record {
+  count = numberIn l a;
+  bad = isSet (numberIn l (a + 1));
+  fault = isSet (numberIn l (a + 2));
+  list = lentNumbers 31 l (a + 3);
+}
+
+-- the parameters, in ten
+abbrev pub lentParameters : List ℕ → ℕ → Parameters
+lentParameters l a = record {
+  fault = isSet (numberIn l a);
+  originator = lentLeaf l (a + 1);
+  text = lentLeaf l (a + 4);
+  carry = lentLeaf l (a + 7);
+}
+
+-- an info, in 66; what may grow stands last
+unfoldable pub lentInfo : List ℕ → ℕ → Info
+lentInfo l a = record {
+  leaf = lentLeaves 5 l a;
+  events = lentEvents l (a + 15);
+  audio = lentAudio l (a + 19);
+  locations = lentLocations l (a + 22);
+  parameters = lentParameters l (a + 56);
+}
+
+-- ---- the state
+
+-- where a part begins, and how many numbers there are
+abbrev pub pairFrom : ℕ
+pairFrom = 23
+
+abbrev pub infoFrom : ℕ
+infoFrom = 29
+
+abbrev pub keptFrom : ℕ
+keptFrom = 95
+
+abbrev pub lentSize : ℕ
+lentSize = 161
+
+unfoldable pub lentState : List ℕ → State
+lentState l = record {
+  alert = record {
+    leaf = lentLeaves 7 l 0;
+    kept = keptAs (numberIn l 21);
+    fault = isSet (numberIn l 22);
+    info = lentInfo l keptFrom;
+  };
+  info = lentInfo l infoFrom;
+  pair = lentLeaves 2 l pairFrom;
+}
+
+-- ---- changes
+
+-- m is l, but for the n numbers from a
+pub record ButFor (l m : List ℕ) (a n : ℕ) : Type 0 where
+  pub long : length m ≡ length l
+  pub same : (j : ℕ) → j < a ⊎ a + n ≤ j → numberIn m j ≡ numberIn l j
+
+-- the k numbers from a are 0
+abbrev pub Zeros : List ℕ → ℕ → ℕ → Type 0
+Zeros l a k = (j : ℕ) → j < k → numberIn l (a + j) ≡ 0
