@@ -4,13 +4,13 @@
 --     Copying      the same while the first g characters of v are put into d from `to` on
 use Prim.Native.Nat.{ℕ, _+_, _<_, _≤_}
 use mathlib.Core.Path.{_≡_, refl, sym, ap, ap₂, _∙_}
-use mathlib.Core.Bool.{Bool, true, false}
+use mathlib.Core.Bool.{Bool, true, false, not}
 use mathlib.Core.List.{List, [], _∷_, map}
 use native.Mathlib.Nat.{add-zero}
 use native.Mathlib.Omega.{arith}
 use native.Mathlib.Decide.{decLt}
-use borrow.Author.Tests.{eq-eqb, ne-eqb}
-use lib.Dec.{eqb}
+use borrow.Author.Tests.{eq-eqb, ne-eqb, le-ltb, lt-ltb}
+use lib.Dec.{eqb, ltb}
 use lib.ListN.{length, take, drop, getD, set, length-take, length-drop, length-set, drop-of-length-le}
 use lib.Seq.{sets, getD-take}
 use Rattle.octets.specs.Bytes.{byteAt, same}
@@ -105,6 +105,18 @@ pub record Copying (s v : List ℕ) (g : ℕ) (d : List ℕ) (to : ℕ) (x : Lis
   pub long : length x ≡ length d
   pub left : sets x (to + k) (drop k (take g v)) ≡ sets d to (take g v)
 
+-- k characters are put, those that were to be, and t is whether v has more than g
+abbrev pub Copied : (v : List ℕ) (g : ℕ) (d : List ℕ) (to : ℕ) (x : List ℕ) (k : ℕ) → Bool → Type 0
+Copied v g d to x k t = (k ≡ length (take g v)) × ((t ≡ ltb g (length v)) × (x ≡ sets d to (take g v)))
+
+drop-some : (v : List ℕ) (k : ℕ) → not (same (drop k v) []) ≡ ltb k (length v)
+unfolding same
+drop-some v k = go (decLt k (length v))
+  where
+    go : Dec (k < length v) → not (same (drop k v) []) ≡ ltb k (length v)
+    go (yes h) = rw (tail-step v k h, lt-ltb k (length v) h)
+    go (no h) = let l : length v ≤ k = omega arith in rw (drop-of-length-le v l, le-ltb k (length v) l)
+
 pub copy-starts : (s : List ℕ) (at g : ℕ) (d : List ℕ) (to : ℕ) → Copying s (valueAt s at) g d to d (leadAt s at) 0
 copy-starts s at g d to = record { reads = read-starts s at; most = omega arith; long = refl; left = rw add-zero }
 
@@ -115,20 +127,25 @@ module _ {s v : List ℕ} {g : ℕ} {d : List ℕ} {to : ℕ} {x : List ℕ} {i 
 
     pub copy-more : Copying s v g d to (set x (to + k) c) j (k + 1)
     copy-more =
-        let e : getD (take g v) k 0 ≡ c = getD-take g v k 0 l ∙ m .is in
-        let q : sets (set x (to + k) (getD (take g v) k 0)) (to + (k + 1)) (drop (k + 1) (take g v)) ≡ sets d to (take g v) = copy-step x (take g v) _ to k in-take (r .left) in
+        let w = take g v in
+        let e : getD w k 0 ≡ c = getD-take g v k 0 l ∙ m .is in
+        let q : sets (set x (to + k) (getD w k 0)) (to + (k + 1)) (drop (k + 1) w) ≡ sets d to w = copy-step x w _ to k in-take (r .left) in
         record { reads = m .reads; most = omega arith; long = simp length-set (r .long); left = rw e at q }
 
-  pub copied : length (take g v) ≤ k → (k ≡ length (take g v)) × (x ≡ sets d to (take g v))
-  copied h =
+  copied : (t : Bool) → t ≡ ltb g (length v) → length (take g v) ≤ k → Copied v g d to x k t
+  copied t a h =
       let w = r .reads .within in
       let n = r .most in
       let e : k ≤ length (take g v) = simp length-take (omega arith) in
-      (omega arith, ap (sets x (to + k)) (sym (drop-of-length-le (take g v) h)) ∙ r .left)
+      (omega arith, (a, ap (sets x (to + k)) (sym (drop-of-length-le (take g v) h)) ∙ r .left))
 
   -- the value has ended, or g characters are put
-  pub copy-done : k ≡ length v → (k ≡ length (take g v)) × (x ≡ sets d to (take g v))
-  copy-done e = copied (simp length-take (omega arith))
+  pub copy-done : k ≡ length v → Copied v g d to x k false
+  copy-done e = let n = r .most in copied false (sym (le-ltb g (length v) (omega arith))) (simp length-take (omega arith))
 
-  pub copy-full : g ≤ k → (k ≡ length (take g v)) × (x ≡ sets d to (take g v))
-  copy-full h = copied (simp length-take (omega arith))
+  pub copy-full : (t : Bool) → t ≡ not (same (restAt s i) []) → g ≤ k → Copied v g d to x k t
+  copy-full t e h =
+      let n = r .most in
+      let q : k ≡ g = omega arith in
+      let a : t ≡ ltb k (length v) = e ∙ ap (λ (l : List ℕ). not (same l [])) (r .reads .rest) ∙ drop-some v k in
+      copied t (a ∙ ap (λ (m : ℕ). ltb m (length v)) q) (simp length-take (omega arith))

@@ -1,11 +1,12 @@
 -- The value of a leaf, character by character.
 --     value-start                from its first character on, the rest is the value
 --     step-more, step-done       a step gives the rest's first character and goes to the rest behind it, or there is none
+--     rest-some, rest-none       whether a step is left
 --     value-past                 past the message's end the value is empty
 --     gap-.., step-..            what follows white space, and a step, by what stands at the place
 use Prim.Native.Nat.{ℕ, _+_, _<_, _≤_}
 use mathlib.Core.Path.{_≡_, refl, sym, ap, _∙_}
-use mathlib.Core.Bool.{Bool, true, false, not}
+use mathlib.Core.Bool.{Bool, true, false, not, true≢false}
 use mathlib.Core.List.{List, [], _∷_}
 use native.Mathlib.Omega.{arith}
 use lib.ListN.{length}
@@ -216,6 +217,15 @@ module _ (s : List ℕ) where
   pub step-done : (i : ℕ) → stepAt s i ≡ Done → restAt s i ≡ []
   step-done i e = rw e at (step-spells i)
 
+  -- whether the rest has a character
+  pub rest-some : (i c j : ℕ) → stepAt s i ≡ Is c j → same (restAt s i) [] ≡ false
+  unfolding same
+  rest-some i c j e = ap (λ (v : List ℕ). same v []) (step-more i c j e .0)
+
+  pub rest-none : (i : ℕ) → stepAt s i ≡ Done → same (restAt s i) [] ≡ true
+  unfolding same
+  rest-none i e = ap (λ (v : List ℕ). same v []) (step-done i e)
+
 -- ---- a byte that is a character as it stands
 
 mark-shows : (b : ℕ) → isMark b ≡ true → isSpace b ≡ false
@@ -234,16 +244,21 @@ mark-plain b h =
 pub mark-step : (s : List ℕ) (i : ℕ) → isMark (byteAt s i) ≡ true → stepAt s i ≡ Is (byteAt s i) (i + 1)
 mark-step s i h = step-is s i (byteAt s i) (i + 1) (plain-next s i (mark-plain (byteAt s i) h)) (mark-shows (byteAt s i) h)
 
--- a space before a mark
-space-plain : isPlain 32 ≡ true
-unfolding isPlain mayStand isSpace oneOf
-space-plain = refl
-
-space-is : isSpace 32 ≡ true
+-- white space before a mark
+space-none : (isSpace 60 ≡ false) × (isSpace 38 ≡ false)
 unfolding isSpace oneOf
-space-is = refl
+space-none = (refl, refl)
 
-pub space-step : (s : List ℕ) (i : ℕ) → byteAt s i ≡ 32 → isMark (byteAt s (i + 1)) ≡ true → stepAt s i ≡ Is 32 (i + 1)
+space-differs : (b k : ℕ) → isSpace b ≡ true → isSpace k ≡ false → b ≡ k → ⊥
+space-differs b k h n e = true≢false (sym h ∙ ap isSpace e ∙ n)
+
+space-plain : (b : ℕ) → isSpace b ≡ true → isPlain b ≡ true
+unfolding isPlain mayStand oneOf
+space-plain b h =
+    rw (h, ne-eqb b 60 (space-differs b 60 h (space-none .0)), ne-eqb b 38 (space-differs b 38 h (space-none .1)))
+
+pub space-step : (s : List ℕ) (i : ℕ) → isSpace (byteAt s i) ≡ true → isMark (byteAt s (i + 1)) ≡ true → stepAt s i ≡ Is 32 (i + 1)
 space-step s i e h =
-    step-gap s i (byteAt s i) (i + 1) (plain-next s i (ap isPlain e ∙ space-plain)) (ap isSpace e ∙ space-is)
-    ∙ gap-here s (i + 1) (byteAt s (i + 1)) (i + 1 + 1) (plain-next s (i + 1) (mark-plain (byteAt s (i + 1)) h)) (mark-shows (byteAt s (i + 1)) h)
+    let n = byteAt s (i + 1) in
+    step-gap s i (byteAt s i) (i + 1) (plain-next s i (space-plain (byteAt s i) e)) e
+    ∙ gap-here s (i + 1) n (i + 1 + 1) (plain-next s (i + 1) (mark-plain n h)) (mark-shows n h)

@@ -3,14 +3,16 @@ use octets::Num;
 use pieces::End;
 use pieces::Ref;
 ghost use mathlib.Core.Path.{_≡_};
+ghost use mathlib.Core.Bool.{true, not};
 ghost use mathlib.Core.List.{[], map};
 ghost use Prim.Native.Nat.{_+_, _≤_};
+ghost use lib.Dec.{ltb};
 ghost use lib.ListN.{length, take};
 ghost use lib.Seq.{sets};
-ghost use Rattle.octets.specs.Bytes.{byteAt, same};
+ghost use Rattle.octets.specs.Bytes.{byteAt, same, isSpace};
 ghost use Rattle.values.specs.Chars.{nextAt};
 ghost use Rattle.values.specs.Value.{valueAt, small};
-ghost use Rattle.values.specs.WorkingSteps.{leadAt, gapAt, stepAt, form, sixDigits, isMark};
+ghost use Rattle.values.specs.WorkingSteps.{restAt, leadAt, gapAt, stepAt, form, sixDigits, isMark};
 
 // What stands at a place of a text: a character and where the next stands, a comment and where it ends, or the end.
 pub enum Next {
@@ -23,6 +25,12 @@ pub enum Next {
 pub enum Got {
     Is(u8, usize),
     Done,
+}
+
+// What has been put of a value: how many characters, and whether it has more.
+pub struct Filled {
+    pub count: usize,
+    pub more: bool,
 }
 
 // ---- reading forward
@@ -106,9 +114,9 @@ fn is_mark(b: u8) -> bool
     octets::is_visible(b)
 }
 
-// The next character of the value from a space: at once where a mark follows.
+// The next character of the value from white space: at once where a mark follows.
 fn from_space(s: &[u8], at: usize) -> Got
-    requires { ⌜ byteAt (now s) at ≡ 32 ⌝ }
+    requires { ⌜ isSpace (byteAt (now s) at) ≡ true ⌝ }
     ensures { λ r. ⌜ r ≡ stepAt (now (s .entry)) at ⌝ }
 {
     let next = at + 1;
@@ -118,12 +126,12 @@ fn from_space(s: &[u8], at: usize) -> Got
     slow(s, at)
 }
 
-// The next character of the value from a place where b stands, which is no mark: a space before a mark at once, anything else by `slow`.
+// The next character of the value from a place where b stands, which is no mark: white space before a mark at once, all else by `slow`.
 fn from_other(s: &[u8], at: usize, b: u8) -> Got
     requires { ⌜ b ≡ byteAt (now s) at ⌝ }
     ensures { λ r. ⌜ r ≡ stepAt (now (s .entry)) at ⌝ }
 {
-    if b == 32 {
+    if octets::is_space(b) {
         return from_space(s, at);
     }
     slow(s, at)
@@ -218,10 +226,22 @@ pub fn equal_any_case(s: &[u8], at: usize, w: &[u8]) -> bool
     matches(s, at, w, true)
 }
 
-// Puts at most g characters of the value into `out` at `to`, and says how many.
-pub fn copy(s: &[u8], at: usize, g: usize, out: &mut [u8], to: usize) -> usize
+// Whether the value has a character more at a place in it.
+fn goes_on(s: &[u8], at: usize) -> bool
+    ensures { λ r. ⌜ r ≡ not (same (restAt (now (s .entry)) at) []) ⌝ }
+{
+    let g = step(s, at);
+    match g {
+        Got::Is(_, _) => true,
+        Got::Done => false,
+    }
+}
+
+// Puts at most g characters of the value into `out` at `to`.
+pub fn fill(s: &[u8], at: usize, g: usize, out: &mut [u8], to: usize) -> Filled
     requires { ⌜ to + length (take g (valueAt (now s) at)) ≤ length (now out) ⌝ }
-    ensures { λ r. ⌜ r ≡ length (take g (valueAt (now (s .entry)) at)) ⌝ }
+    ensures { λ r. ⌜ r .count ≡ length (take g (valueAt (now (s .entry)) at)) ⌝ }
+    ensures { λ r. ⌜ r .more ≡ ltb g (length (valueAt (now (s .entry)) at)) ⌝ }
     ensures { λ _. ⌜ now (out .exit) ≡ sets (now (out .entry)) to (take g (valueAt (now (s .entry)) at)) ⌝ }
 {
     let mut i = lead(s, at);
@@ -236,13 +256,29 @@ pub fn copy(s: &[u8], at: usize, g: usize, out: &mut [u8], to: usize) -> usize
         }
         let x = from_other(s, i, b);
         let Got::Is(c, j) = x else {
-            return k;
+            return Filled {
+                count: k,
+                more: false,
+            };
         };
         out[to + k] = c;
         i = j;
         k += 1;
     }
-    k
+    Filled {
+        count: k,
+        more: goes_on(s, i),
+    }
+}
+
+// Puts at most g characters of the value into `out` at `to`, and says how many.
+pub fn copy(s: &[u8], at: usize, g: usize, out: &mut [u8], to: usize) -> usize
+    requires { ⌜ to + length (take g (valueAt (now s) at)) ≤ length (now out) ⌝ }
+    ensures { λ r. ⌜ r ≡ length (take g (valueAt (now (s .entry)) at)) ⌝ }
+    ensures { λ _. ⌜ now (out .exit) ≡ sets (now (out .entry)) to (take g (valueAt (now (s .entry)) at)) ⌝ }
+{
+    let f = fill(s, at, g, out, to);
+    f.count
 }
 
 // The number that the value writes in six digits.

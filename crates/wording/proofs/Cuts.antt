@@ -1,4 +1,5 @@
 -- A value after one space, and a value cut.
+--     part-behind                          a space and characters behind it, as two calls put them
 --     part-none, part-put, part-marked     what is put of a value, by whether it is empty, fits or is cut
 --     part-long                            how long that is
 use Prim.Native.Nat.{ℕ, _+_, _-_, _≤_, _<_, min}
@@ -10,7 +11,7 @@ use native.Mathlib.Omega.{arith}
 use lib.ListN.{length, take, drop, length-append, length-take, length-drop, take-append-drop}
 use lib.Seq.{sets, sets-eq, length-sets, take-at, drop-at, take-all, length-take-le, take-take}
 use borrow.Author.Tests.{le-leb, lt-leb}
-use Rattle.octets.proofs.Runs.{sets-append}
+use Rattle.octets.proofs.Runs.{sets-append, behind}
 use Rattle.octets.proofs.Sames.{same-is}
 use Rattle.octets.specs.Bytes.{same}
 use Rattle.octets.specs.Text.{bytes}
@@ -91,6 +92,12 @@ part-long g v t = go (decLt 0 (length v)) (decLt g (length v))
     go (yes k) (no h) =
         let fits : length v ≤ g = omega arith in
         omega (arith, ap length (part-whole g v k fits), length-take g v, one-some v k)
+
+-- a space, and n characters behind it
+pub part-behind : (d : List ℕ) (at : ℕ) (w : List ℕ) {x y : List ℕ} (n : ℕ)
+    → x ≡ sets d at (32 ∷ []) → n ≡ length w → y ≡ sets x (at + 1) w
+    → Put d at (32 ∷ w) y (at + 1 + n)
+part-behind d at w n p q r = (omega arith, behind d at (32 ∷ []) {e = at + 1} w p (omega arith) r)
 
 -- a copy that fits is the whole part
 pub part-put : (d : List ℕ) (at g : ℕ) (v : List ℕ) {x : List ℕ} {r : ℕ} → 0 < length v → length v ≤ g → Put d at (32 ∷ take g v) x r → Put d at (part g v) x r

@@ -24,8 +24,8 @@ fn put_spaced(s: &[u8], p: usize, g: usize, out: &mut [u8], at: usize) -> usize
     at + 1 + values::copy(s, p, g, out, at + 1)
 }
 
-// Puts a space and the value at p, cut to g, if there is one. It is measured only where it fills g: then the mark takes the place of its
-// last three characters, if it is longer.
+// Puts a space and the value at p, cut to g, if there is one. Nothing is measured: where the value goes on behind what was put, the mark
+// takes the place of the last three characters.
 fn put_part(s: &[u8], p: usize, g: usize, out: &mut [u8], at: usize) -> usize
     requires { ⌜ (g < length (valueAt (now s) p) → 3 ≤ g) ⌝ }
     requires { ⌜ at + length (afterSpace (cut g (valueAt (now s) p))) ≤ length (now out) ⌝ }
@@ -35,11 +35,10 @@ fn put_part(s: &[u8], p: usize, g: usize, out: &mut [u8], at: usize) -> usize
     if values::is_empty(s, p) {
         return at;
     }
-    let e = put_spaced(s, p, g, out, at);
-    if e - at <= g {
-        return e;
-    }
-    if values::size(s, p) <= g {
+    octets::put_byte(out, at, 32);
+    let f = values::fill(s, p, g, out, at + 1);
+    let e = at + 1 + f.count;
+    if !f.more {
         return e;
     }
     octets::put_bytes(out, e - 3, b"***");

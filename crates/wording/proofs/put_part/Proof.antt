@@ -1,15 +1,18 @@
--- An empty value puts nothing; one that does not fill its allotment, or just fills it, is whole; of a longer one the last three characters give place to the mark.
-use Prim.Native.Nat.{ℕ, _+_, _<_}
-use mathlib.Core.List.{List}
+-- An empty value puts nothing; one that does not go on behind what was put is whole; of a longer one the last three characters give place to the mark.
+use Prim.Native.Nat.{ℕ, _+_, _<_, _≤_}
+use mathlib.Core.List.{List, _∷_}
 use mathlib.Core.Path.{_≡_, sym, _∙_}
 use native.Mathlib.Omega.{arith}
+use mir.Syntax.{w64}
+use mir.Val.{Fits}
 use lib.ListN.{length, take, length-take}
 use Rattle.octets.proofs.Runs.{begin}
 use Rattle.octets.specs.Text.{bytes}
-use Rattle.sentence.proofs.Puts.{put-all}
+use Rattle.sentence.proofs.Puts.{Put, put-all}
 use Rattle.values.specs.Value.{valueAt}
-use Rattle.wording.proofs.Cuts.{none-long, some-long, part, part-none, part-put, part-copied, part-marked}
+use Rattle.wording.proofs.Cuts.{none-long, some-long, part, part-none, part-behind, part-put, part-copied, part-marked}
 use borrow.Author.Needs.{needs}
+use borrow.Author.Tests.{ltb-true, ltb-false, not-true, not-false}
 use Rattle.wording.proofs.put_part.Statement.{statement}
 use Rattle.wording.proofs.put_part.Tie as tie
 
@@ -26,12 +29,40 @@ some c = some-long (value (begun c)) (sym (c .before .is-empty .ensures) ∙ c .
 long : (c : tie.Else1) → length (part (begun c .args .g) (value (begun c))) ≡ 1 + length (take (begun c .args .g) (value (begun c)))
 long c = part-copied (begun c .args .g) (value (begun c)) (some c) (begun c .pre .0)
 
--- where it is longer than its allotment
-abbrev begun3 : tie.Else3 → tie.Start
-begun3 c = begun (c .before .before .before .before .before .before .before)
+room : (c : tie.Else1) → let a = begun c .args in a .at + 1 + length (take (a .g) (value (begun c))) ≤ length (a .out .now)
+room c = omega (arith, long c, begun c .pre .1)
 
-over : (c : tie.Else3) → begun3 c .args .g < length (value (begun3 c))
-over c = omega (arith, c .if3 .left, c .before .size .ensures)
+-- where it has been put
+abbrev else1 : tie.After-fill → tie.Else1
+else1 c = c .before .before .before .before .before .before
+
+abbrev begun2 : tie.After-fill → tie.Start
+begun2 c = begun (else1 c)
+
+put : (c : tie.After-fill) → let a = begun2 c .args in
+    Put (a .out .now) (a .at) (32 ∷ take (a .g) (value (begun2 c))) (c .fill .last .1 .1 .1 .0) (a .at + 1 + c .fill .result .count)
+put c =
+    let at-put-byte = c .before .before .before .before in
+    let a = begun2 c .args in
+    part-behind (a .out .now) (a .at) (take (a .g) (value (begun2 c))) _ (at-put-byte .put-byte .ensures) (c .fill .ensures .0) (c .fill .ensures .1 .1)
+
+ends : (c : tie.After-fill) → Fits w64 (begun2 c .args .at + 1 + c .fill .result .count)
+ends c = omega (arith, room (else1 c), c .fill .ensures .0)
+
+-- where it is longer than its allotment
+abbrev filled : tie.Else2 → tie.After-fill
+filled c = c .before .before .before .before .before
+
+over : (c : tie.Else2) → begun2 (filled c) .args .g < length (value (begun2 (filled c)))
+over c = ltb-true _ _ (sym (filled c .fill .ensures .1 .0) ∙ not-false _ (c .if2 .left))
+
+three : (c : tie.Else2) → 3 ≤ begun2 (filled c) .args .g
+three c = begun2 (filled c) .pre .0 (over c)
+
+three-put : (c : tie.Else2) → 3 ≤ filled c .fill .result .count
+three-put c =
+    let a = begun2 (filled c) .args in
+    omega (arith, three c, over c, filled c .fill .ensures .0, length-take (a .g) (value (begun2 (filled c))))
 
 is-empty-requires : tie.Need-is-empty-requires
 is-empty-requires c κs = search needs
@@ -39,69 +70,62 @@ is-empty-requires c κs = search needs
 returns : tie.Need-returns
 returns c =
     let start = c .before .before .before .before in
-    put-all (begin (start .args .out .now) (start .args .at)) _ (part-none (start .args .g) (value start) (none-long (value start) (sym (c .before .is-empty .ensures) ∙ c .if1 .taken)))
+    let none = none-long (value start) (sym (c .before .is-empty .ensures) ∙ c .if1 .taken) in
+    put-all (begin (start .args .out .now) (start .args .at)) _ (part-none (start .args .g) (value start) none)
 
-put-spaced-requires : tie.Need-put-spaced-requires
-put-spaced-requires c κs =
-    let start = c .before .before .before .before .before in
-    omega (arith, long (c .before), start .pre .1)
+put-byte-requires : tie.Need-put-byte-requires
+put-byte-requires c κs = omega (arith, room (c .before))
 
-sub-if2 : tie.Need-sub-if2
-sub-if2 c = search needs
+add-fill : tie.Need-add-fill
+add-fill c = let r = room (c .before .before .before .before .before) in search needs
+
+fill-requires : tie.Need-fill-requires
+fill-requires c κs = let r = room (c .before .before .before .before .before) in search needs
+
+add-e : tie.Need-add-e
+add-e c = search needs
+
+add-e-2 : tie.Need-add-e-2
+add-e-2 c = ends (c .before .before .before)
 
 same-length : tie.Need-same-length
 same-length c = search needs
 
 returns-2 : tie.Need-returns-2
 returns-2 c =
-    let at-put-spaced = c .before .before .before in
-    let at-if1 = at-put-spaced .before .before in
-    let start = at-if1 .before .before .before .before in
-    let v = value start in
-    part-put (start .args .out .now) (start .args .at) (start .args .g) v (some at-if1) (omega (arith, c .if2 .taken, at-put-spaced .put-spaced .ensures .0, length-take (start .args .g) v)) (at-put-spaced .put-spaced .ensures)
-
-size-requires : tie.Need-size-requires
-size-requires c κs = search needs
-
-same-length-2 : tie.Need-same-length-2
-same-length-2 c = search needs
-
-returns-3 : tie.Need-returns-3
-returns-3 c =
-    let at-put-spaced = c .before .before .before .before .before in
-    let at-if1 = at-put-spaced .before .before in
-    let start = at-if1 .before .before .before .before in
-    let v = value start in
-    part-put (start .args .out .now) (start .args .at) (start .args .g) v (some at-if1) (omega (arith, c .if3 .taken, c .before .size .ensures)) (at-put-spaced .put-spaced .ensures)
+    let at-fill = c .before .before .before .before .before in
+    let a = begun2 at-fill .args in
+    let v = value (begun2 at-fill) in
+    let fits : length v ≤ a .g = ltb-false _ _ (sym (at-fill .fill .ensures .1 .0) ∙ not-true _ (c .if2 .taken)) in
+    part-put (a .out .now) (a .at) (a .g) v (some (else1 at-fill)) fits (put at-fill)
 
 sub-put-bytes : tie.Need-sub-put-bytes
-sub-put-bytes c =
-    let at-put-spaced = c .before .before .before .before .before .before in
-    let start = at-put-spaced .before .before .before .before .before .before in
-    omega (arith, start .pre .0 (over (c .before)), over (c .before), at-put-spaced .put-spaced .ensures .0, length-take (start .args .g) (value start))
+sub-put-bytes c = omega (arith, three-put (c .before))
 
 slice-aggregate-put-bytes : tie.Need-slice-aggregate-put-bytes
 slice-aggregate-put-bytes c = search needs
 
 put-bytes-requires : tie.Need-put-bytes-requires
 put-bytes-requires c κs =
-    let at-put-spaced = c .before .before .before .before .before .before .before in
-    let at-if1 = at-put-spaced .before .before in
-    let start = at-if1 .before .before .before .before in
-    omega (arith, start .pre .0 (over (c .before .before)), over (c .before .before), at-put-spaced .put-spaced .ensures .0, length-take (start .args .g) (value start), long at-if1, start .pre .1, at-put-spaced .put-spaced .kept .1)
+    let at-if2 = c .before .before in
+    let r = room (else1 (filled at-if2)) in
+    let n = filled at-if2 .fill .ensures .0 in
+    let t = three-put at-if2 in
+    search needs
 
-same-length-3 : tie.Need-same-length-3
-same-length-3 c = search needs
+same-length-2 : tie.Need-same-length-2
+same-length-2 c = search needs
 
-returns-4 : tie.Need-returns-4
+returns-3 : tie.Need-returns-3
 unfolding bytes
-returns-4 c =
-    let at-if3 = c .before .before .before .before .before in
-    let at-put-spaced = at-if3 .before .before .before .before .before in
-    let at-if1 = at-put-spaced .before .before in
-    let start = at-if1 .before .before .before .before in
-    let v = value start in
-    part-marked (start .args .out .now) (start .args .at) (start .args .g) v _ _ (at-put-spaced .put-spaced .result) (over at-if3) (start .pre .0 (over at-if3)) (omega (arith, over at-if3, length-take (start .args .g) v, long at-if1, start .pre .1)) (at-put-spaced .put-spaced .ensures) (c .before .before .put-bytes .ensures)
+returns-3 c =
+    let at-if2 = c .before .before .before .before .before in
+    let at-fill = filled at-if2 in
+    let a = begun2 at-fill .args in
+    let v = value (begun2 at-fill) in
+    let h = over at-if2 in
+    let fits : a .at + 1 + a .g ≤ length (a .out .now) = omega (arith, room (else1 at-fill), h, length-take (a .g) v) in
+    part-marked (a .out .now) (a .at) (a .g) v _ _ _ h (three at-if2) fits (put at-fill) (c .before .before .put-bytes .ensures)
 
 pub put-part-spec : {M : Type 1} → statement M
 put-part-spec =
@@ -109,15 +133,15 @@ put-part-spec =
     (tie.spec
     is-empty-requires
     returns
-    put-spaced-requires
-    sub-if2
+    put-byte-requires
+    add-fill
+    fill-requires
+    add-e
+    add-e-2
     same-length
     returns-2
-    size-requires
-    same-length-2
-    returns-3
     sub-put-bytes
     slice-aggregate-put-bytes
     put-bytes-requires
-    same-length-3
-    returns-4)
+    same-length-2
+    returns-3)

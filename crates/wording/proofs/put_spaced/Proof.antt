@@ -1,10 +1,7 @@
 -- The value behind the space.
-use Prim.Native.Nat.{_+_}
-use mathlib.Core.List.{[], _∷_}
-use native.Mathlib.Omega.{arith}
 use lib.ListN.{take}
-use Rattle.octets.proofs.Runs.{behind}
 use Rattle.values.specs.Value.{valueAt}
+use Rattle.wording.proofs.Cuts.{part-behind}
 use borrow.Author.Needs.{needs}
 use Rattle.wording.proofs.put_spaced.Statement.{statement}
 use Rattle.wording.proofs.put_spaced.Tie as tie
@@ -29,9 +26,11 @@ same-length c = search needs
 
 returns : tie.Need-returns
 returns c =
-    let at-put-byte = c .before .before .before .before .before .before in
-    let start = at-put-byte .before .before .before .before in
-    (omega (arith, c .before .before .copy .ensures .0), behind (start .args .out .now) (start .args .at) (32 ∷ []) {e = start .args .at + 1} (take (start .args .g) (valueAt (start .args .s .now) (start .args .p))) (at-put-byte .put-byte .ensures) (omega arith) (c .before .before .copy .ensures .1))
+    let at-copy = c .before .before in
+    let at-put-byte = at-copy .before .before .before .before in
+    let a = at-put-byte .before .before .before .before .args in
+    let v = valueAt (a .s .now) (a .p) in
+    part-behind (a .out .now) (a .at) (take (a .g) v) _ (at-put-byte .put-byte .ensures) (at-copy .copy .ensures .0) (at-copy .copy .ensures .1)
 
 pub put-spaced-spec : {M : Type 1} → statement M
 put-spaced-spec =
