@@ -24,13 +24,13 @@ use Rattle.reads.specs.declared.Kept.the-variants.{First, Selected}
 use Rattle.reads.specs.declared.State.{State}
 use Rattle.reads.specs.declared.Context.{Context}
 use Rattle.reads.specs.declared.Context.the-variants.{EventCode, Parameter, Geocode, Resource}
-use Rattle.lent.specs.WorkingLent.{numberIn, keptAs, lentLeaf, lentLeaves, lentEvents, lentAudio, lentLocations, lentParameters, lentInfo, pairFrom, infoFrom}
-use Rattle.lent.specs.WorkingLent.{keptFrom, lentSize, lentState, ButFor}
+use Rattle.lent.specs.WorkingLent.{numberIn, keptNumbered, lentLeaf, lentLeaves, lentEvents, lentAudio, lentLocations, lentParameters, lentInfo, pairFrom, infoFrom}
+use Rattle.lent.specs.WorkingLent.{chosenFrom, lentSize, lentState, ButFor}
 use Rattle.lent.proofs.Parts.{but-alike, but-wider, but-nothing, numbers-as}
 use Rattle.lent.proofs.Puts.{PutNumber, PutBit, PutEvents, PutAudio, PutParameters, PutLocations}
 use Rattle.lent.proofs.States.{info-events, info-audio, info-locations, info-parameters, state-number, state-fault, state-pair, state-info, state-chosen}
 use Rattle.gather.specs.WorkingVisit.{pairAdded, pairLeft, infoLeft, laterLeft}
-use Rattle.gather.specs.WorkingLentVisit.{keptInfo, chosen}
+use Rattle.gather.specs.WorkingLentVisit.{keptInfo, infoChosen}
 
 -- m is l with this put at a
 
@@ -56,7 +56,7 @@ added-is s l k = refl
 
 module _ {l m o : List ℕ} {x y : Leaf} (s : List ℕ) (long : length l ≡ lentSize)
     (name : x ≡ lentLeaf l pairFrom) (value : y ≡ lentLeaf l (pairFrom + 3)) (cleared : PutPair m o pairFrom (replicate 2 (noLeaf (length s)))) where
-  pair-left : (k : Context) (b n : ℕ) → infoFrom ≤ b → b + n ≤ keptFrom → ButFor l m b n → lentInfo m infoFrom ≡ added s l k
+  pair-left : (k : Context) (b n : ℕ) → infoFrom ≤ b → b + n ≤ chosenFrom → ButFor l m b n → lentInfo m infoFrom ≡ added s l k
       → StateIs o (pairLeft s k (lentState l))
   pair-left k b n from to w is = (
     cleared .0 .long ∙ w .long ∙ long,
@@ -130,25 +130,25 @@ info-is : (l : List ℕ) → lentInfo l infoFrom ≡ lentState l .info
 unfolding lentState
 info-is l = refl
 
-module _ {l m o : List ℕ} (long : length l ≡ lentSize) (kept : PutInfo l m keptFrom (lentInfo l infoFrom)) where
-  kept-says : {n : ℕ} → PutNumber m o 21 n → StateIs o (keptInfo (keptAs n) (lentState l))
+module _ {l m o : List ℕ} (long : length l ≡ lentSize) (kept : PutInfo l m chosenFrom (lentInfo l infoFrom)) where
+  kept-says : {n : ℕ} → PutNumber m o 21 n → StateIs o (keptInfo (keptNumbered n) (lentState l))
   kept-says put = (
     put .0 .long ∙ kept .0 .long ∙ long,
     state-number m o _ (put .0) (put .1) ∙ rw (state-chosen l m _ (kept .0) (kept .1 ∙ info-is l)),
   )
 
-  pub chosen-english : {b : Bool} → b ≡ true → PutNumber m o 21 2 → StateIs o (chosen b (lentState l))
-  unfolding chosen keptAs
+  pub chosen-english : {b : Bool} → b ≡ true → PutNumber m o 21 2 → StateIs o (infoChosen b (lentState l))
+  unfolding infoChosen keptNumbered
   chosen-english h put = rw h (kept-says put)
 
-  pub chosen-first : {b : Bool} {k : Kept} → b ≡ false → k ≡ keptAs (numberIn l 21) → isNothing k ≡ true → PutNumber m o 21 1
-      → StateIs o (chosen b (lentState l))
-  unfolding chosen keptAs lentState
+  pub chosen-first : {b : Bool} {k : Kept} → b ≡ false → k ≡ keptNumbered (numberIn l 21) → isNothing k ≡ true → PutNumber m o 21 1
+      → StateIs o (infoChosen b (lentState l))
+  unfolding infoChosen keptNumbered lentState
   chosen-first h is none put = rw (h, sym (ap isNothing is) ∙ none) (kept-says put)
 
-pub chosen-none : (l : List ℕ) {b : Bool} {k : Kept} → length l ≡ lentSize → b ≡ false → k ≡ keptAs (numberIn l 21) → isNothing k ≡ false
-    → StateIs l (chosen b (lentState l))
-unfolding chosen lentState
+pub chosen-none : (l : List ℕ) {b : Bool} {k : Kept} → length l ≡ lentSize → b ≡ false → k ≡ keptNumbered (numberIn l 21) → isNothing k ≡ false
+    → StateIs l (infoChosen b (lentState l))
+unfolding infoChosen lentState
 chosen-none l long h is some = (long, rw (h, sym (ap isNothing is) ∙ some))
 
 -- ---- an info
@@ -171,8 +171,8 @@ module _ {l m o : List ℕ} (n : ℕ) (long : length l ≡ lentSize)
   )
 
 chosen-left : (s : List ℕ) (st : State)
-    → chosen (english s (languageLeaf (st .info))) (faulted st) ≡ record { alert = infoStep s (st .alert) (st .info); info = st .info; pair = st .pair }
-unfolding chosen infoStep
+    → infoChosen (english s (languageLeaf (st .info))) (faulted st) ≡ record { alert = infoStep s (st .alert) (st .info); info = st .info; pair = st .pair }
+unfolding infoChosen infoStep
 chosen-left s st = go (english s (languageLeaf (st .info))) (isNothing (st .alert .kept))
   where
     go : (b n : Bool) → pick b (keptInfo Selected (faulted st)) (pick n (keptInfo First (faulted st)) (faulted st)) ≡ record {
@@ -186,13 +186,13 @@ chosen-left s st = go (english s (languageLeaf (st .info))) (isNothing (st .aler
     go false false = refl
 
 module _ {l m o p : List ℕ} {x : Leaf} (s : List ℕ) (is : x ≡ lentLeaf l infoFrom) (put : PutBit l m 22 (faultIn (lentState l)))
-    (told : StateIs o (chosen (english s x) (lentState m))) (cleared : PutInfo o p infoFrom (noInfo (length s))) where
+    (told : StateIs o (infoChosen (english s x) (lentState m))) (cleared : PutInfo o p infoFrom (noInfo (length s))) where
   language-is : x ≡ languageLeaf (lentState l .info)
   unfolding lentState lentInfo lentLeaves
   language-is = is
 
   chosen-is : lentState o ≡ record { alert = infoStep s (lentState l .alert) (lentState l .info); info = lentState l .info; pair = lentState l .pair }
-  chosen-is = told .1 ∙ (λ i. chosen (english s (language-is i)) (state-fault l m _ (put .0) (put .1) i)) ∙ chosen-left s (lentState l)
+  chosen-is = told .1 ∙ (λ i. infoChosen (english s (language-is i)) (state-fault l m _ (put .0) (put .1) i)) ∙ chosen-left s (lentState l)
 
   pub info-left : StateIs p (infoLeft s (lentState l))
   info-left = (

@@ -1,4 +1,5 @@
 pub mod Leaves
+pub mod Contents
 pub mod Infos
 pub mod Selects
 pub mod Gathers

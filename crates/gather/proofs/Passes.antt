@@ -19,14 +19,14 @@ use Rattle.markup.proofs.Reading.{Reading, reading-starts, reading-text, readin
 use Rattle.reads.specs.declared.Context.{Context}
 use Rattle.reads.specs.declared.State.{State}
 use Rattle.reads.specs.Names.{contextOf}
-use Rattle.gather.specs.declared.Got.{Got}
+use Rattle.gather.specs.declared.Gathered.{Gathered}
 use Rattle.gather.specs.WorkingVisit.{Holds, touchIn, left, leafPlace, visit, nothingGot, settled, finished, gotOne, gotHeld}
 
 -- an answer with an end counts as it stands, and one without is a refusal
-pub settled-at : (n : ℕ) (r : Got) (j : ℕ) → r .end ≡ At j → settled n r ≡ r
+pub settled-at : (n : ℕ) (r : Gathered) (j : ℕ) → r .end ≡ At j → settled n r ≡ r
 settled-at n r j q = rw q
 
-pub settled-no : (n : ℕ) (r : Got) → r .end ≡ No → settled n r ≡ nothingGot n
+pub settled-no : (n : ℕ) (r : Gathered) → r .end ≡ No → settled n r ≡ nothingGot n
 settled-no n r q = rw q
 
 module _ (s p : List ℕ) (c : Context) where
@@ -71,13 +71,13 @@ module _ (s p : List ℕ) (c : Context) where
       passing-bad e w = reading-bad (gotHeld s p c) skips adds got-text got-elem s d at st₀ i st e w
 
       -- a child, as `read_element` answers it
-      module _ (r : Got) (told : settled (length s) r ≡ gotOne s p c st (elemAt s d i)) where
+      module _ (r : Gathered) (told : settled (length s) r ≡ gotOne s p c st (elemAt s d i)) where
         got : (j : ℕ) → r .end ≡ At j → r ≡ gotOne s p c st (elemAt s d i)
         got j q = sym (settled-at (length s) r j q) ∙ told
 
         pub child-goes : (j : ℕ) → r .end ≡ At j → Goes s i j
         unfolding gotOne
-        child-goes j q = go (elemAt s d i) (elem-goes s d i) (ap (λ (x : Got). x .end) (sym (got j q)) ∙ q)
+        child-goes j q = go (elemAt s d i) (elem-goes s d i) (ap (λ (x : Gathered). x .end) (sym (got j q)) ∙ q)
           where
             go : (o : One) → OneGoes s i o → gotOne s p c st o .end ≡ At j → Goes s i j
             go (one x kids k) g e = rw (at-is e) at g
@@ -85,7 +85,7 @@ module _ (s p : List ℕ) (c : Context) where
 
         pub passing-child : (j : ℕ) → pieceAt s i ≡ Child → r .end ≡ At j → Passing d at st₀ i st → Passing d at st₀ j (r .state)
         unfolding gotOne
-        passing-child j e q w = rw (got j q) (go (elemAt s d i) refl (ap (λ (x : Got). x .end) (sym (got j q)) ∙ q))
+        passing-child j e q w = rw (got j q) (go (elemAt s d i) refl (ap (λ (x : Gathered). x .end) (sym (got j q)) ∙ q))
           where
             go : (o : One) → elemAt s d i ≡ o → gotOne s p c st o .end ≡ At j → Passing d at st₀ j (gotOne s p c st o .state)
             go (one x kids k) u y = reading-child (gotHeld s p c) skips adds got-text got-elem s d at st₀ i st j x kids e (u ∙ ap (one x kids) (at-is y)) w
@@ -93,7 +93,7 @@ module _ (s p : List ℕ) (c : Context) where
 
         pub passing-none : pieceAt s i ≡ Child → r .end ≡ No → Passing d at st₀ i st → nothingGot (length s) ≡ gotHeld s p c st₀ (contentAt s d at)
         unfolding gotOne gotHeld
-        passing-none e q w = go (elemAt s d i) refl (ap (λ (x : Got). x .end) (sym told ∙ settled-no (length s) r q))
+        passing-none e q w = go (elemAt s d i) refl (ap (λ (x : Gathered). x .end) (sym told ∙ settled-no (length s) r q))
           where
             go : (o : One) → elemAt s d i ≡ o → gotOne s p c st o .end ≡ No → nothingGot (length s) ≡ gotHeld s p c st₀ (contentAt s d at)
             go (one x kids k) u y = absurd (differ (sym y))
@@ -125,10 +125,10 @@ module _ (s p : List ℕ) (c : Context) (st : State) (d i : ℕ) where
     unfolding gotOne visit
     one-empty a j e = rw (elem-empty s d b i up a j e, same-place j)
 
-    module _ (a j : ℕ) (e : openAt s i ≡ Full a j) (r : Got) (told : settled (length s) r ≡ gotHeld s p (inner a) (touchIn Holds c st) (contentAt s b j)) where
+    module _ (a j : ℕ) (e : openAt s i ≡ Full a j) (r : Gathered) (told : settled (length s) r ≡ gotHeld s p (inner a) (touchIn Holds c st) (contentAt s b j)) where
       pub one-bad : r .end ≡ No → nothingGot (length s) ≡ gotOne s p c st (elemAt s d i)
       unfolding gotHeld
-      one-bad q = go (contentAt s b j) refl (ap (λ (x : Got). x .end) (sym told ∙ settled-no (length s) r q))
+      one-bad q = go (contentAt s b j) refl (ap (λ (x : Gathered). x .end) (sym told ∙ settled-no (length s) r q))
         where
           go : (h : Held) → contentAt s b j ≡ h → gotHeld s p (inner a) (touchIn Holds c st) h .end ≡ No → nothingGot (length s) ≡ gotOne s p c st (elemAt s d i)
           go (held t k) u y = absurd (differ (sym y))
@@ -136,7 +136,7 @@ module _ (s p : List ℕ) (c : Context) (st : State) (d i : ℕ) where
 
       pub one-close : (k : ℕ) → r .end ≡ At k → finished (length s) (closeAt s i a k) (left s (inner a) (leafPlace s j k) (r .state)) ≡ gotOne s p c st (elemAt s d i)
       unfolding gotHeld finished gotOne visit
-      one-close k q = let got = sym (settled-at (length s) r k q) ∙ told in rw got (go (contentAt s b j) refl (ap (λ (x : Got). x .end) (sym got) ∙ q))
+      one-close k q = let got = sym (settled-at (length s) r k q) ∙ told in rw got (go (contentAt s b j) refl (ap (λ (x : Gathered). x .end) (sym got) ∙ q))
         where
           tip : (t : Forest) → contentAt s b j ≡ held t k → (x : End) → closeAt s i a k ≡ x
               → finished (length s) x (left s (inner a) (leafPlace s j k) (visit s p (inner a) (touchIn Holds c st) t)) ≡ gotOne s p c st (elemAt s d i)

@@ -12,7 +12,7 @@ use Rattle.reads.specs.declared.State.{State}
 use Rattle.reads.specs.declared.Context.{Context}
 use Rattle.reads.specs.declared.Context.the-variants as ctx
 use Rattle.lent.specs.WorkingLent.{pairFrom, infoFrom, lentSize, lentState}
-use Rattle.gather.specs.declared.Got.{Got}
+use Rattle.gather.specs.declared.Gathered.{Gathered}
 
 -- where leaf k of n stands that begin at a; behind the state where there is none
 unfoldable pub slotIn : ℕ → ℕ → ℕ → ℕ
@@ -39,9 +39,9 @@ abbrev pub keptInfo : Kept → State → State
 keptInfo k st = record { alert = record { leaf = st .alert .leaf; kept = k; info = st .info; fault = st .alert .fault }; info = st .info; pair = st .pair }
 
 -- it is kept if its language selects it, or if none is yet
-unfoldable pub chosen : Bool → State → State
-chosen b st = pick b (keptInfo Selected st) (pick (isNothing (st .alert .kept)) (keptInfo First st) st)
+unfoldable pub infoChosen : Bool → State → State
+infoChosen b st = pick b (keptInfo Selected st) (pick (isNothing (st .alert .kept)) (keptInfo First st) st)
 
 -- an answer, with the state that is lent
-abbrev pub gotIn : End → List ℕ → Got
+abbrev pub gotIn : End → List ℕ → Gathered
 gotIn e l = record { end = e; state = lentState l }

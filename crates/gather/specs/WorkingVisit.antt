@@ -16,7 +16,7 @@ use Rattle.reads.specs.declared.Alert.{Alert}
 use Rattle.reads.specs.declared.State.{State}
 use Rattle.reads.specs.declared.Context.{Context}
 use Rattle.reads.specs.declared.Context.the-variants as ctx
-use Rattle.gather.specs.declared.Got.{Got}
+use Rattle.gather.specs.declared.Gathered.{Gathered}
 
 -- ---- leaves
 
@@ -125,25 +125,25 @@ visit s p c st (elem g kids rest) =
     (left s (contextIn s p c st g) (leafPlace s (g .body) (g .shut)) (visit s p (contextIn s p c st g) (touchIn Holds c st) kids))
     rest
 
-abbrev pub nothingGot : ℕ → Got
+abbrev pub nothingGot : ℕ → Gathered
 nothingGot n = record { end = No; state = nothingRead n }
 
 -- an answer as it counts: what does not end has gathered nothing, whatever state is handed back
-abbrev pub settledAs : ℕ → End → Got → Got
+abbrev pub settledAs : ℕ → End → Gathered → Gathered
 settledAs n (At e) r = r
 settledAs n No r = nothingGot n
 
-abbrev pub settled : ℕ → Got → Got
+abbrev pub settled : ℕ → Gathered → Gathered
 settled n r = settledAs n (r .end) r
 
-unfoldable pub finished : ℕ → End → State → Got
+unfoldable pub finished : ℕ → End → State → Gathered
 finished n (At e) st = record { end = At e; state = st }
 finished n No st = nothingGot n
 
-unfoldable pub gotOne : List ℕ → List ℕ → Context → State → One → Got
+unfoldable pub gotOne : List ℕ → List ℕ → Context → State → One → Gathered
 gotOne s p c st (one g kids e) = record { end = At e; state = visit s p c st (elem g kids nil) }
 gotOne s p c st none = nothingGot (length s)
 
-unfoldable pub gotHeld : List ℕ → List ℕ → Context → State → Held → Got
+unfoldable pub gotHeld : List ℕ → List ℕ → Context → State → Held → Gathered
 gotHeld s p c st (held t j) = record { end = At j; state = visit s p c st t }
 gotHeld s p c st bad = nothingGot (length s)

@@ -14,12 +14,12 @@ ghost use Rattle.markup.specs.Tree.{elemAt, contentAt};
 ghost use Rattle.reads.specs.WorkingLeaves.{nothingRead};
 ghost use Rattle.reads.specs.WorkingSteps.{locationStep, english, languageFault};
 ghost use Rattle.reads.specs.declared.Context.the-variants.{EventCode, Parameter, Geocode, Resource};
-ghost use Rattle.lent.specs.WorkingLent.{numberIn, isSet, lentLeaf, lentLocations, lentSize, lentState, ButFor};
+ghost use Rattle.lent.specs.WorkingLent.{numberIn, isSet, lentLocations, lentSize, lentState, ButFor};
 ghost use Rattle.gather.specs.WorkingVisit.{Holds, Stands, touchIn, pairLeft, infoLeft, laterLeft, left, leafPlace, settled, finished, gotOne, gotHeld};
-ghost use Rattle.gather.specs.WorkingLentVisit.{slotIn, slotOf, chosen, gotIn};
+ghost use Rattle.gather.specs.WorkingLentVisit.{slotIn, slotOf, infoChosen, gotIn};
 
 // Where what is read ends, and what is gathered with it.
-pub struct Got {
+pub struct Gathered {
     pub end: End,
     pub state: State,
 }
@@ -181,7 +181,7 @@ fn leave_info(s: &[u8], st: &mut [usize])
 fn choose_info(s: &[u8], l: Leaf, st: &mut [usize])
     requires { ⌜ length (now st) ≡ lentSize ⌝ }
     ensures { λ _. ⌜ length (now (st .exit)) ≡ lentSize ⌝ }
-    ensures { λ _. ⌜ lentState (now (st .exit)) ≡ chosen (english (now (s .entry)) l) (lentState (now (st .entry))) ⌝ }
+    ensures { λ _. ⌜ lentState (now (st .exit)) ≡ infoChosen (english (now (s .entry)) l) (lentState (now (st .entry))) ⌝ }
 {
     if reads::is_english(s, l) {
         lent::keep_info(st);
@@ -314,18 +314,18 @@ fn read_content(s: &[u8], p: &[u8], at: usize, depth: usize, c: Context, st: &mu
 }
 
 // The element at `at` in the context c: where it ends, and what is gathered with it; where it has no end, nothing.
-pub fn element(s: &[u8], p: &[u8], at: usize, depth: usize, c: Context) -> Got
+pub fn element(s: &[u8], p: &[u8], at: usize, depth: usize, c: Context) -> Gathered
     ensures { λ r. ⌜ r ≡ gotOne (now (s .entry)) (now (p .entry)) c (nothingRead (length (now (s .entry)))) (elemAt (now (s .entry)) depth at) ⌝ }
 {
     let mut st = [0usize; lent::SIZE];
     lent::clear(&mut st, s.len());
     let e = read_element(s, p, at, depth, c, &mut st);
     match e {
-        End::At(q) => Got {
+        End::At(q) => Gathered {
             end: End::At(q),
             state: lent::state_at(&st),
         },
-        End::No => Got {
+        End::No => Gathered {
             end: End::No,
             state: reads::new_state(s.len()),
         },

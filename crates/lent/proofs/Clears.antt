@@ -16,7 +16,7 @@ use lib.ListN.{length, getD, set, replicate, length-set, length-replicate, getD-
 use lib.Seq.{getD-set-same, getD-set-other}
 use Rattle.reads.specs.declared.Leaf.{Leaf}
 use Rattle.reads.specs.WorkingLeaves.{noLeaf, noInfo, nothingRead}
-use Rattle.lent.specs.WorkingLent.{numberIn, narrow, keptAs, lentLeaf, lentLeaves, lentNumbers, lentInfo, lentState, ButFor, Zeros}
+use Rattle.lent.specs.WorkingLent.{numberIn, narrowed, keptNumbered, lentLeaf, lentLeaves, lentNumbers, lentInfo, lentState, ButFor, Zeros}
 use Rattle.lent.proofs.Parts.{but-alike, but-nothing, but-join, leaf-as, leaves-as, info-as}
 
 -- ---- numbers are put
@@ -87,37 +87,37 @@ module _ (n : ℕ) where
 -- i of the k numbers from a on stand in xs
 pub record Reading (l xs : List ℕ) (a k i : ℕ) : Type 0 where
   pub long : length xs ≡ k
-  pub is : (j : ℕ) → j < i → getD xs j 0 ≡ narrow (numberIn l (a + j))
+  pub is : (j : ℕ) → j < i → getD xs j 0 ≡ narrowed (numberIn l (a + j))
 
 pub reading-starts : (l : List ℕ) (a k : ℕ) → Reading l (replicate k 0) a k 0
 reading-starts l a k = record { long = length-replicate k 0; is = λ j h. absurd (omega (arith, h)) }
 
-pub reading-on : (l xs : List ℕ) (a k i x : ℕ) → i < k → Reading l xs a k i → x ≡ narrow (numberIn l (a + i)) → Reading l (set xs i x) a k (i + 1)
+pub reading-on : (l xs : List ℕ) (a k i x : ℕ) → i < k → Reading l xs a k i → x ≡ narrowed (numberIn l (a + i)) → Reading l (set xs i x) a k (i + 1)
 reading-on l xs a k i x h w e = record { long = length-set xs i x ∙ w .long; is = near }
   where
-    near : (j : ℕ) → j < i + 1 → getD (set xs i x) j 0 ≡ narrow (numberIn l (a + j))
+    near : (j : ℕ) → j < i + 1 → getD (set xs i x) j 0 ≡ narrowed (numberIn l (a + j))
     near j y = go (decLt j i)
       where
-        go : Dec (j < i) → getD (set xs i x) j 0 ≡ narrow (numberIn l (a + j))
+        go : Dec (j < i) → getD (set xs i x) j 0 ≡ narrowed (numberIn l (a + j))
         go (yes z) = getD-set-other xs i j x 0 (λ q. omega (arith, z, q)) ∙ w .is j z
         go (no z) = let q : j ≡ i = omega (arith, y, z) in rw q (getD-set-same xs i x 0 (omega (arith, h, w .long)) ∙ e)
 
 pub numbers-are : (xs l : List ℕ) (a k : ℕ) → length xs ≡ k
-    → ((j : ℕ) → j < k → getD xs j 0 ≡ narrow (numberIn l (a + j))) → xs ≡ lentNumbers k l a
+    → ((j : ℕ) → j < k → getD xs j 0 ≡ narrowed (numberIn l (a + j))) → xs ≡ lentNumbers k l a
 unfolding lentNumbers
 numbers-are [] l a zero n w = refl
 numbers-are [] l a (suc k) n w = absurd (omega (arith, n))
 numbers-are (x ∷ xs) l a zero n w = absurd (omega (arith, n))
 numbers-are (x ∷ xs) l a (suc k) n w = rw (first, numbers-are xs l (a + 1) k (omega (arith, n)) rest)
   where
-    first : x ≡ narrow (numberIn l a)
-    first = w 0 (omega arith) ∙ ap (λ b. narrow (numberIn l b)) (omega arith)
+    first : x ≡ narrowed (numberIn l a)
+    first = w 0 (omega arith) ∙ ap (λ b. narrowed (numberIn l b)) (omega arith)
 
-    rest : (j : ℕ) → j < k → getD xs j 0 ≡ narrow (numberIn l (a + 1 + j))
-    rest j h = w (suc j) (omega (arith, h)) ∙ ap (λ b. narrow (numberIn l b)) (omega arith)
+    rest : (j : ℕ) → j < k → getD xs j 0 ≡ narrowed (numberIn l (a + 1 + j))
+    rest j h = w (suc j) (omega (arith, h)) ∙ ap (λ b. narrowed (numberIn l b)) (omega arith)
 
 zeros-are : (l : List ℕ) (a k : ℕ) → Zeros l a k → lentNumbers k l a ≡ replicate k 0
-unfolding narrow
+unfolding narrowed
 zeros-are l a k w = sym (numbers-are (replicate k 0) l a k (length-replicate k 0) (λ j h. getD-replicate k j 0 0 h ∙ rw (w j h)))
 
 zero-in : (l : List ℕ) (a k b : ℕ) → Zeros l a k → a ≤ b → b < a + k → numberIn l b ≡ 0
@@ -143,7 +143,7 @@ five-leaves l a = rw (add-assoc a 3 3, add-assoc a 6 3, add-assoc a 9 3)
 
 info-cleared : (n : ℕ) (m : List ℕ) (a : ℕ) → lentLeaves 6 m a ≡ replicate 6 (noLeaf n) → numberIn m (a + 15 + 3) ≡ 0 → numberIn m (a + 19) ≡ n
     → Zeros m (a + 20) 37 → lentLeaves 3 m (a + 57) ≡ replicate 3 (noLeaf n) → lentInfo m a ≡ noInfo n
-unfolding lentInfo narrow
+unfolding lentInfo narrowed
 info-cleared n m a e p q z f = rw (
   leaves-absent n 5 m a (λ j h. leaf-absent n 6 m a j e (omega (arith, h))),
   leaf-absent n 6 m a 5 e (omega arith),
@@ -211,7 +211,7 @@ module _ (n : ℕ) {l m o p q r : List ℕ} where
 
   pub state-clears : Empties n l m 0 7 → Blanks m o 21 2 → Empties n o p 23 2 → ButFor p q 29 66 × (lentInfo q 29 ≡ noInfo n)
       → ButFor q r 95 66 × (lentInfo r 95 ≡ lentInfo q 29) → (length r ≡ length l) × (lentState r ≡ nothingRead n)
-  unfolding lentState keptAs
+  unfolding lentState keptNumbered
   state-clears (b0, e0) (b1, z) (b2, e2) (b3, e3) (b4, e4) = (
     c1 .long ∙ b0 .long,
     rw (

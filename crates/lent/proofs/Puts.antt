@@ -18,7 +18,7 @@ use Rattle.reads.specs.declared.Audio.{Audio}
 use Rattle.reads.specs.declared.Parameters.{Parameters}
 use Rattle.reads.specs.declared.Locations.{Locations}
 use Rattle.reads.specs.WorkingSteps.{withLocation}
-use Rattle.lent.specs.WorkingLent.{numberIn, narrow, isSet, lentLeaf, lentNumbers, lentEvents, lentAudio, lentLocations, lentParameters, ButFor}
+use Rattle.lent.specs.WorkingLent.{numberIn, narrowed, isSet, lentLeaf, lentNumbers, lentEvents, lentAudio, lentLocations, lentParameters, ButFor}
 use Rattle.lent.proofs.Parts.{but-alike, but-wider, but-nothing, but-join, leaf-as, numbers-as}
 
 -- m is l with this put at a
@@ -45,8 +45,8 @@ abbrev pub PutLocations : List ℕ → List ℕ → ℕ → Locations → Type 0
 PutLocations l m a e = ButFor l m a 34 × (lentLocations m a ≡ e)
 
 -- a number of 32 bits is said as it is
-narrow-small : (n : ℕ) → n < 4294967296 → narrow n ≡ n
-unfolding narrow
+narrow-small : (n : ℕ) → n < 4294967296 → narrowed n ≡ n
+unfolding narrowed
 narrow-small n h = rw (lt-ltb n 4294967296 h)
 
 -- ---- two numbers and a bit
@@ -60,8 +60,8 @@ module _ {l m o p : List ℕ} (a x y : ℕ) (b : Bool) (u : PutNumber l m a x) (
   three-first : numberIn p a ≡ x
   three-first = w .0 .same a (inl (omega arith)) ∙ v .0 .same a (inl (omega arith)) ∙ u .1
 
-  three-second : y < 4294967296 → narrow (numberIn p (a + 1)) ≡ y
-  three-second h = ap narrow (w .0 .same (a + 1) (inl (omega arith)) ∙ v .1) ∙ narrow-small y h
+  three-second : y < 4294967296 → narrowed (numberIn p (a + 1)) ≡ y
+  three-second h = ap narrowed (w .0 .same (a + 1) (inl (omega arith)) ∙ v .1) ∙ narrow-small y h
 
   pub leaf-put : y < 4294967296 → PutLeaf l p a record { at = x; count = y; holds = b }
   leaf-put h = (three-but, rw (three-first, three-second h, w .1))
@@ -107,7 +107,7 @@ module _ {l m o p q : List ℕ} (a : ℕ) (e : Parameters)
 module _ (l m : List ℕ) (v : ℕ) where
   -- the number at i, as m says it
   abbrev said : ℕ → ℕ
-  said i = narrow (numberIn m i)
+  said i = narrowed (numberIn m i)
 
   later : (a n : ℕ) → a + 1 + n ≡ a + suc n
   later a n = omega arith
@@ -138,7 +138,7 @@ module _ {l m o : List ℕ} (a v : ℕ) (r : numberIn l a < 31) (h : v < 4294967
       w .0 .same (a + 1) (inl (omega arith)),
       w .0 .same (a + 2) (inl (omega arith)),
       numbers-as m o 31 (a + 3) (a + 3) (but-alike m o a 1 (a + 3) 31 (x .0) (inr (omega arith))),
-      numbers-put l m v 31 (a + 3) (numberIn l a) (w .0) (ap narrow (w .1) ∙ narrow-small v h),
+      numbers-put l m v 31 (a + 3) (numberIn l a) (w .0) (ap narrowed (w .1) ∙ narrow-small v h),
     ),
   )
 

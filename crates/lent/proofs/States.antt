@@ -13,7 +13,7 @@ use Rattle.reads.specs.declared.Audio.{Audio}
 use Rattle.reads.specs.declared.Locations.{Locations}
 use Rattle.reads.specs.declared.Parameters.{Parameters}
 use Rattle.reads.specs.declared.Info.{Info}
-use Rattle.lent.specs.WorkingLent.{numberIn, isSet, keptAs, lentLeaves, lentEvents, lentAudio, lentLocations, lentParameters, lentInfo, pairFrom, infoFrom, keptFrom, lentState, ButFor}
+use Rattle.lent.specs.WorkingLent.{numberIn, isSet, keptNumbered, lentLeaves, lentEvents, lentAudio, lentLocations, lentParameters, lentInfo, pairFrom, infoFrom, chosenFrom, lentState, ButFor}
 use Rattle.lent.proofs.Parts.{but-alike, leaves-as, events-as, audio-as, locations-as, parameters-as, info-as}
 
 -- ---- an info that begins at a
@@ -129,12 +129,12 @@ module _ (l m : List ℕ) where
     pair-kept (inl h) = leaves-as l m 2 pairFrom pairFrom (but-alike l m b k pairFrom 6 w (inr h))
     pair-kept (inr h) = leaves-as l m 2 pairFrom pairFrom (but-alike l m b k pairFrom 6 w (inl h))
 
-    info-kept : b + k ≤ infoFrom ⊎ keptFrom ≤ b → lentInfo m infoFrom ≡ lentInfo l infoFrom
+    info-kept : b + k ≤ infoFrom ⊎ chosenFrom ≤ b → lentInfo m infoFrom ≡ lentInfo l infoFrom
     info-kept (inl h) = info-as l m infoFrom infoFrom (but-alike l m b k infoFrom 66 w (inr h))
     info-kept (inr h) = info-as l m infoFrom infoFrom (but-alike l m b k infoFrom 66 w (inl h))
 
-    chosen-kept : b + k ≤ keptFrom → lentInfo m keptFrom ≡ lentInfo l keptFrom
-    chosen-kept h = info-as l m keptFrom keptFrom (but-alike l m b k keptFrom 66 w (inr h))
+    chosen-kept : b + k ≤ chosenFrom → lentInfo m chosenFrom ≡ lentInfo l chosenFrom
+    chosen-kept h = info-as l m chosenFrom chosenFrom (but-alike l m b k chosenFrom 66 w (inr h))
 
   pub state-leaves : (b k : ℕ) → b + k ≤ 21 → ButFor l m b k → lentState m ≡ record {
     alert = record { leaf = lentLeaves 7 m 0; kept = lentState l .alert .kept; fault = lentState l .alert .fault; info = lentState l .alert .info };
@@ -151,7 +151,7 @@ module _ (l m : List ℕ) where
   )
 
   pub state-number : (n : ℕ) → ButFor l m 21 1 → numberIn m 21 ≡ n → lentState m ≡ record {
-    alert = record { leaf = lentState l .alert .leaf; kept = keptAs n; fault = lentState l .alert .fault; info = lentState l .alert .info };
+    alert = record { leaf = lentState l .alert .leaf; kept = keptNumbered n; fault = lentState l .alert .fault; info = lentState l .alert .info };
     info = lentState l .info;
     pair = lentState l .pair;
   }
@@ -195,7 +195,7 @@ module _ (l m : List ℕ) where
     chosen-kept b k w (omega (arith, to)),
   )
 
-  pub state-info : (i : Info) (b k : ℕ) → infoFrom ≤ b → b + k ≤ keptFrom → ButFor l m b k → lentInfo m infoFrom ≡ i → lentState m ≡ record {
+  pub state-info : (i : Info) (b k : ℕ) → infoFrom ≤ b → b + k ≤ chosenFrom → ButFor l m b k → lentInfo m infoFrom ≡ i → lentState m ≡ record {
     alert = lentState l .alert;
     info = i;
     pair = lentState l .pair;
@@ -210,17 +210,17 @@ module _ (l m : List ℕ) where
     chosen-kept b k w to,
   )
 
-  pub state-chosen : (i : Info) → ButFor l m keptFrom 66 → lentInfo m keptFrom ≡ i → lentState m ≡ record {
+  pub state-chosen : (i : Info) → ButFor l m chosenFrom 66 → lentInfo m chosenFrom ≡ i → lentState m ≡ record {
     alert = record { leaf = lentState l .alert .leaf; kept = lentState l .alert .kept; fault = lentState l .alert .fault; info = i };
     info = lentState l .info;
     pair = lentState l .pair;
   }
   unfolding lentState
   state-chosen i w is = rw (
-    alert-leaves-kept keptFrom 66 w (omega arith),
+    alert-leaves-kept chosenFrom 66 w (omega arith),
     w .same 21 (inl (omega arith)),
     w .same 22 (inl (omega arith)),
-    pair-kept keptFrom 66 w (inr (omega arith)),
-    info-kept keptFrom 66 w (inr (omega arith)),
+    pair-kept chosenFrom 66 w (inr (omega arith)),
+    info-kept chosenFrom 66 w (inr (omega arith)),
     is,
   )

@@ -24,22 +24,22 @@ abbrev pub numberIn : List ℕ → ℕ → ℕ
 numberIn l a = getD l a 0
 
 -- one of 32 bits; a larger one does not occur, and is 0
-unfoldable pub narrow : ℕ → ℕ
-narrow n = pick (ltb n 4294967296) n 0
+unfoldable pub narrowed : ℕ → ℕ
+narrowed n = pick (ltb n 4294967296) n 0
 
 -- 0 is no, and any other yes
 abbrev pub isSet : ℕ → Bool
 isSet n = not (eqb n 0)
 
 -- 0 is none, 1 the first, and any other the one that is selected
-unfoldable pub keptAs : ℕ → Kept
-keptAs n = pick (eqb n 0) Nothing (pick (eqb n 1) First Selected)
+unfoldable pub keptNumbered : ℕ → Kept
+keptNumbered n = pick (eqb n 0) Nothing (pick (eqb n 1) First Selected)
 
 -- ---- parts, from a place on
 
 -- a leaf, in three: where it begins, how often it stands, whether it holds an element
 abbrev pub lentLeaf : List ℕ → ℕ → Leaf
-lentLeaf l a = record { at = numberIn l a; count = narrow (numberIn l (a + 1)); holds = isSet (numberIn l (a + 2)) }
+lentLeaf l a = record { at = numberIn l a; count = narrowed (numberIn l (a + 1)); holds = isSet (numberIn l (a + 2)) }
 
 -- n leaves
 unfoldable pub lentLeaves : ℕ → List ℕ → ℕ → List Leaf
@@ -49,7 +49,7 @@ lentLeaves (suc n) l a = lentLeaf l a ∷ lentLeaves n l (a + 3)
 -- n numbers
 unfoldable pub lentNumbers : ℕ → List ℕ → ℕ → List ℕ
 lentNumbers zero l a = []
-lentNumbers (suc n) l a = narrow (numberIn l a) ∷ lentNumbers n l (a + 1)
+lentNumbers (suc n) l a = narrowed (numberIn l a) ∷ lentNumbers n l (a + 1)
 
 -- the eventCodes, in four
 abbrev pub lentEvents : List ℕ → ℕ → Events
@@ -57,7 +57,7 @@ lentEvents l a = record { same = lentLeaf l a; fault = isSet (numberIn l (a + 3)
 
 -- the audio choice, in three
 abbrev pub lentAudio : List ℕ → ℕ → Audio
-lentAudio l a = record { uri = numberIn l a; number = narrow (numberIn l (a + 1)); fault = isSet (numberIn l (a + 2)) }
+lentAudio l a = record { uri = numberIn l a; number = narrowed (numberIn l (a + 1)); fault = isSet (numberIn l (a + 2)) }
 
 -- the locations, in 34
 abbrev pub lentLocations : List ℕ → ℕ → Locations
@@ -96,8 +96,8 @@ pairFrom = 23
 abbrev pub infoFrom : ℕ
 infoFrom = 29
 
-abbrev pub keptFrom : ℕ
-keptFrom = 95
+abbrev pub chosenFrom : ℕ
+chosenFrom = 95
 
 abbrev pub lentSize : ℕ
 lentSize = 161
@@ -106,9 +106,9 @@ unfoldable pub lentState : List ℕ → State
 lentState l = record {
   alert = record {
     leaf = lentLeaves 7 l 0;
-    kept = keptAs (numberIn l 21);
+    kept = keptNumbered (numberIn l 21);
     fault = isSet (numberIn l 22);
-    info = lentInfo l keptFrom;
+    info = lentInfo l chosenFrom;
   };
   info = lentInfo l infoFrom;
   pair = lentLeaves 2 l pairFrom;

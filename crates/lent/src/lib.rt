@@ -13,7 +13,7 @@ ghost use Prim.Native.Nat.{_+_, _*_, _≤_};
 ghost use lib.ListN.{length, replicate};
 ghost use Rattle.reads.specs.WorkingLeaves.{noLeaf, noInfo, nothingRead};
 ghost use Rattle.reads.specs.WorkingSteps.{withLocation};
-ghost use Rattle.lent.specs.WorkingLent.{numberIn, narrow, isSet, keptAs, lentLeaf, lentLeaves, lentNumbers, lentEvents, lentAudio, lentLocations, lentParameters, lentInfo, pairFrom, infoFrom, keptFrom, lentSize, lentState, ButFor, Zeros};
+ghost use Rattle.lent.specs.WorkingLent.{numberIn, narrowed, isSet, keptNumbered, lentLeaf, lentLeaves, lentNumbers, lentEvents, lentAudio, lentLocations, lentParameters, lentInfo, pairFrom, infoFrom, chosenFrom, lentSize, lentState, ButFor, Zeros};
 
 // Which info is kept.
 pub const KEPT: usize = 21;
@@ -38,13 +38,14 @@ pub const PARAMETERS: usize = 85;
 // The info that is kept.
 pub const CHOSEN: usize = 95;
 
+// How many numbers a state has.
 pub const SIZE: usize = 161;
 
 // ---- single numbers
 
 // A number of 32 bits; 0 for a larger one, which does not occur.
 fn narrow_of(n: usize) -> u32
-    ensures { λ r. ⌜ r ≡ narrow n ⌝ }
+    ensures { λ r. ⌜ r ≡ narrowed n ⌝ }
 {
     if n < 4294967296 {
         return n as u32;
@@ -234,7 +235,7 @@ fn list_at(st: &[usize], a: usize) -> [u32; 31]
 
 pub fn kept_at(st: &[usize]) -> Kept
     requires { ⌜ length (now st) ≡ lentSize ⌝ }
-    ensures { λ r. ⌜ r ≡ keptAs (numberIn (now (st .entry)) 21) ⌝ }
+    ensures { λ r. ⌜ r ≡ keptNumbered (numberIn (now (st .entry)) 21) ⌝ }
 {
     let n = st[KEPT];
     if n == 0 {
@@ -265,7 +266,8 @@ fn info_at(st: &[usize], a: usize) -> Info
     }
 }
 
-// Nothing of an info of a message of n bytes: one that is read anew.
+// Nothing of an info of a message of n bytes: one that is read anew. The five leaves and the one of the eventCodes, their fault, the place of the audio, zeros as
+// far as the fault of the parameters, and their leaves.
 pub fn clear_info(st: &mut [usize], n: usize)
     requires { ⌜ length (now st) ≡ lentSize ⌝ }
     ensures { λ _. ⌜ ButFor (now (st .entry)) (now (st .exit)) infoFrom 66 ⌝ }
@@ -290,11 +292,11 @@ fn put_zeros(st: &mut [usize], a: usize, k: usize)
     }
 }
 
-// The info that has been read is the one that is kept, as the number says.
+// Copies the info that has been read to the place of the one that is kept.
 pub fn keep_info(st: &mut [usize])
     requires { ⌜ length (now st) ≡ lentSize ⌝ }
-    ensures { λ _. ⌜ ButFor (now (st .entry)) (now (st .exit)) keptFrom 66 ⌝ }
-    ensures { λ _. ⌜ lentInfo (now (st .exit)) keptFrom ≡ lentInfo (now (st .entry)) infoFrom ⌝ }
+    ensures { λ _. ⌜ ButFor (now (st .entry)) (now (st .exit)) chosenFrom 66 ⌝ }
+    ensures { λ _. ⌜ lentInfo (now (st .exit)) chosenFrom ≡ lentInfo (now (st .entry)) infoFrom ⌝ }
 {
     let mut k: usize = 0;
     while k < 66 {

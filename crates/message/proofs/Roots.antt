@@ -26,7 +26,7 @@ use Rattle.reads.specs.Names.{inside}
 use Rattle.reads.specs.declared.State.{State}
 use Rattle.gather.specs.WorkingVisit.{touchIn, left, visit, gotOne}
 use Rattle.gather.specs.WorkingRead.{alertOf}
-use Rattle.gather.specs.declared.Got.{Got}
+use Rattle.gather.specs.declared.Gathered.{Gathered}
 use Rattle.gather.proofs.Gathers.{gathers}
 use Rattle.message.specs.Root.{beforeColon, colonAt, prefixOf, xmlnsOf, rootWith, rootOk}
 use Rattle.message.specs.WorkingMessage.{refusedAs, judged, judgedRoot, rootContext, ofRoot}
@@ -38,9 +38,9 @@ root-gathers s p g kids = ap (λ (x : State). x .alert) (gathers s p kids)
 
 -- ---- what the pass answers
 
-module _ (s p : List ℕ) (ok : Bool) (o : One) (r : Got) (got : r ≡ gotOne s p (rootContext ok) (nothingRead (length s)) o) where
+module _ (s p : List ℕ) (ok : Bool) (o : One) (r : Gathered) (got : r ≡ gotOne s p (rootContext ok) (nothingRead (length s)) o) where
   end-is : (e : End) → r .end ≡ e → gotOne s p (rootContext ok) (nothingRead (length s)) o .end ≡ e
-  end-is e q = ap (λ (x : Got). x .end) (sym got) ∙ q
+  end-is e q = ap (λ (x : Gathered). x .end) (sym got) ∙ q
 
   pub pass-none : r .end ≡ No → refusedAs (length s) 5 ≡ judgedRoot s p ok (rooted s o)
   unfolding gotOne judgedRoot rooted
@@ -76,7 +76,7 @@ module _ (s p : List ℕ) (ok : Bool) (o : One) (r : Got) (got : r ≡ gotOne s 
       pub pass-is : k ≡ length s → ok ≡ true → judged s (r .state .alert) ≡ judgedRoot s p ok (rooted s o)
       unfolding judgedRoot rooted ended gotOne
       pass-is h b = by-root (λ g kids u.
-          let e : r .state .alert ≡ alertOf s p kids = ap (λ (x : Got). x .state .alert) got ∙ rw (u, b) (root-gathers s p g kids) in
+          let e : r .state .alert ≡ alertOf s p kids = ap (λ (x : Gathered). x .state .alert) got ∙ rw (u, b) (root-gathers s p g kids) in
           ap (judged s) e ∙ rw (u, m, eq-eqb k (length s) h, b))
 
 -- ---- the root's tag

@@ -24,9 +24,9 @@ use Rattle.reads.specs.declared.Context.{Context}
 use Rattle.reads.specs.declared.Kept.{Kept}
 use Rattle.reads.specs.Names.{contextOf}
 use Rattle.reads.proofs.context_of.Reads as context-of-reads
-use Rattle.lent.specs.WorkingLent.{keptAs, numberIn, lentSize, lentState}
+use Rattle.lent.specs.WorkingLent.{keptNumbered, numberIn, lentSize, lentState}
 use Rattle.lent.proofs.kept_at.Reads as kept-at-reads
-use Rattle.gather.specs.declared.Got.{Got}
+use Rattle.gather.specs.declared.Gathered.{Gathered}
 use Rattle.gather.specs.WorkingVisit.{Holds, touchIn, settled, gotHeld}
 use Rattle.gather.specs.WorkingLentVisit.{gotIn}
 use Rattle.gather.proofs.Passes as pass
@@ -102,7 +102,7 @@ child : (t : ℕ) (c : Child-read t)
     pieceAt (now (k .before .before .before .before .before .args .s)) (k .before .loop .i) ≡ Child
 child t c = looked t (c .before .before .before .before) Child (c .before .before .enum-told3 .given .1)
 
-abbrev child-got : (t : ℕ) → Child-read t → Got
+abbrev child-got : (t : ℕ) → Child-read t → Gathered
 child-got t c = gotIn (c .read-element .result) (c .read-element .last .1 .1 .1 .1 .1 .0)
 
 read-content-loop-holds : (t : ℕ)
@@ -266,13 +266,13 @@ full-named : (s : List ℕ) (i a j : ℕ) → openAt s i ≡ Full a j → (i + 1
 full-named s i a j e = let g = rw e at (open-goes s i) in (g .0, omega (arith, g .1, g .2))
 
 -- the context inside, by what is kept in the state that is lent
-inside : (s p l : List ℕ) (i a : ℕ) (c x : Context) (k : Kept) → k ≡ keptAs (numberIn l 21) → x ≡ contextOf s p i a c k
+inside : (s p l : List ℕ) (i a : ℕ) (c x : Context) (k : Kept) → k ≡ keptNumbered (numberIn l 21) → x ≡ contextOf s p i a c k
     → x ≡ contextOf s p i a c (lentState l .alert .kept)
 unfolding lentState
 inside s p l i a c x k e f = f ∙ ap (contextOf s p i a c) e
 
 -- what a full element holds: its context, and what is gathered there
-abbrev held-got : (t : ℕ) → Inside-read t → Got
+abbrev held-got : (t : ℕ) → Inside-read t → Gathered
 held-got t c = gotIn (c .read-content .result) (c .read-content .last .1 .1 .1 .1 .1 .0)
 
 held-inner : (t : ℕ) (c : Inside-read t)

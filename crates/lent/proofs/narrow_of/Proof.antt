@@ -1,4 +1,4 @@
-use Rattle.lent.specs.WorkingLent.{narrow}
+use Rattle.lent.specs.WorkingLent.{narrowed}
 use borrow.Author.Tests.{lt-ltb, le-ltb}
 use borrow.Author.Needs.{needs}
 use Rattle.lent.proofs.narrow_of.Statement.{statement}
@@ -8,11 +8,11 @@ cast-result : tie.Need-cast-result
 cast-result c = search needs
 
 returns : tie.Need-returns
-unfolding narrow
+unfolding narrowed
 returns c = rw (lt-ltb _ _ (c .if1 .taken))
 
 returns-2 : tie.Need-returns-2
-unfolding narrow
+unfolding narrowed
 returns-2 c = rw (le-ltb _ _ (c .if1 .left))
 
 pub narrow-of-spec : {M : Type 1} → statement M
