@@ -14,7 +14,8 @@ use Rattle.reads.specs.Names.{ReadElement}
 use Rattle.reads.specs.declared.State.{State}
 use Rattle.reads.specs.declared.Context.{Context}
 use Rattle.reads.specs.declared.Context.the-variants as ctx
-use Rattle.gather.specs.WorkingVisit.{Holds, touchIn, left, contextIn, visit}
+use Rattle.gather.specs.declared.Touch.the-variants.{Holds}
+use Rattle.gather.specs.WorkingVisit.{touchIn, left, contextIn, visit}
 use Rattle.gather.specs.Read.{Element, nameIn, keep, named}
 use Rattle.gather.specs.WorkingRead.{placeIn}
 use Rattle.gather.proofs.Leaves.{el}

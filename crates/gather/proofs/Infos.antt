@@ -22,7 +22,8 @@ use Rattle.reads.specs.declared.Info.{Info}
 use Rattle.reads.specs.declared.Alert.{Alert}
 use Rattle.reads.specs.declared.Context.{Context}
 use Rattle.reads.specs.declared.Context.the-variants as ctx
-use Rattle.gather.specs.WorkingVisit.{Holds, touchIn, pairAdded, pairLeft, infoLeft, laterLeft, left, contextIn, visit}
+use Rattle.gather.specs.declared.Touch.the-variants.{Holds}
+use Rattle.gather.specs.WorkingVisit.{touchIn, pairAdded, pairLeft, infoLeft, laterLeft, left, contextIn, visit}
 use Rattle.gather.specs.Read.{nameIn}
 use Rattle.gather.specs.WorkingRead.{placeIn, withLeaf, leafIn, withEvent, withParameter, withGeocode, withResource, withArea, infoOf}
 use Rattle.gather.proofs.Leaves.{state, el, infoWith, leaves, blanks, in-skipped, info-leaf, pair-leaf}

@@ -17,7 +17,9 @@ use Rattle.reads.specs.declared.Alert.{Alert}
 use Rattle.reads.specs.declared.State.{State}
 use Rattle.reads.specs.declared.Context.{Context}
 use Rattle.reads.specs.declared.Context.the-variants as ctx
-use Rattle.gather.specs.WorkingVisit.{Touch, Holds, Stands, touched, touchedAt, touchIn, left, contextIn, visit}
+use Rattle.gather.specs.declared.Touch.{Touch}
+use Rattle.gather.specs.declared.Touch.the-variants.{Holds, Stands}
+use Rattle.gather.specs.WorkingVisit.{touched, touchedAt, touchIn, left, contextIn, visit}
 use Rattle.gather.specs.Read.{Element, bare}
 use Rattle.gather.specs.WorkingRead.{placeIn, markedIf, withLeaf}
 

@@ -20,7 +20,8 @@ use Rattle.reads.specs.declared.Context.{Context}
 use Rattle.reads.specs.declared.State.{State}
 use Rattle.reads.specs.Names.{contextOf}
 use Rattle.gather.specs.declared.Gathered.{Gathered}
-use Rattle.gather.specs.WorkingVisit.{Holds, touchIn, left, leafPlace, visit, nothingGot, settled, finished, gotOne, gotHeld}
+use Rattle.gather.specs.declared.Touch.the-variants.{Holds}
+use Rattle.gather.specs.WorkingVisit.{touchIn, left, leafPlace, visit, nothingGot, settled, finished, gotOne, gotHeld}
 
 -- an answer with an end counts as it stands, and one without is a refusal
 pub settled-at : (n : ℕ) (r : Gathered) (j : ℕ) → r .end ≡ At j → settled n r ≡ r

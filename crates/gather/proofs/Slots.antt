@@ -18,7 +18,8 @@ use Rattle.reads.specs.declared.Context.the-variants as ctx
 use Rattle.lent.specs.WorkingLent.{lentLeaf, lentLeaves, lentInfo, pairFrom, infoFrom, lentSize, lentState, ButFor}
 use Rattle.lent.proofs.Parts.{but-alike, leaf-as, leaves-as}
 use Rattle.lent.proofs.States.{info-leaves, state-leaves, state-pair, state-info}
-use Rattle.gather.specs.WorkingVisit.{Touch, touched, touchedAt, touchIn}
+use Rattle.gather.specs.declared.Touch.{Touch}
+use Rattle.gather.specs.WorkingVisit.{touched, touchedAt, touchIn}
 use Rattle.gather.specs.WorkingLentVisit.{slotIn, slotOf}
 
 -- ---- one leaf of n

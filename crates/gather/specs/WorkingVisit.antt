@@ -16,14 +16,11 @@ use Rattle.reads.specs.declared.Alert.{Alert}
 use Rattle.reads.specs.declared.State.{State}
 use Rattle.reads.specs.declared.Context.{Context}
 use Rattle.reads.specs.declared.Context.the-variants as ctx
+use Rattle.gather.specs.declared.Touch.{Touch}
+use Rattle.gather.specs.declared.Touch.the-variants.{Holds, Stands}
 use Rattle.gather.specs.declared.Gathered.{Gathered}
 
 -- ---- leaves
-
--- what is learnt of a leaf: that it holds an element, or that one more stands, whose value begins at a place
-pub data Touch : Type 0 where
-  Holds : Touch
-  Stands : ℕ → Touch
 
 unfoldable pub touched : Touch → Leaf → Leaf
 touched Holds l = marked l

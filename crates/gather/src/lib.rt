@@ -14,9 +14,15 @@ ghost use Rattle.markup.specs.Tree.{elemAt, contentAt};
 ghost use Rattle.reads.specs.WorkingLeaves.{nothingRead};
 ghost use Rattle.reads.specs.WorkingSteps.{locationStep, english, languageFault};
 ghost use Rattle.reads.specs.declared.Context.the-variants.{EventCode, Parameter, Geocode, Resource};
-ghost use Rattle.lent.specs.WorkingLent.{numberIn, isSet, lentLocations, lentSize, lentState, ButFor};
-ghost use Rattle.gather.specs.WorkingVisit.{Holds, Stands, touchIn, pairLeft, infoLeft, laterLeft, left, leafPlace, settled, finished, gotOne, gotHeld};
+ghost use Rattle.lent.specs.WorkingLent.{numberIn, isSet, lentLocations, faultAt, locationsFrom, lentSize, lentState, ButFor};
+ghost use Rattle.gather.specs.WorkingVisit.{touched, touchIn, pairLeft, infoLeft, laterLeft, left, leafPlace, settled, finished, gotOne, gotHeld};
 ghost use Rattle.gather.specs.WorkingLentVisit.{slotIn, slotOf, infoChosen, gotIn};
+
+// What is learnt of a leaf: that it holds an element, or that one more stands, whose value begins at a place.
+pub enum Touch {
+    Holds,
+    Stands(usize),
+}
 
 // Where what is read ends, and what is gathered with it.
 pub struct Gathered {
@@ -58,29 +64,25 @@ fn slot_of(c: Context) -> usize
     }
 }
 
-// Marks the leaf of the context c, in which an element stands; where c is no leaf, nothing.
-fn mark_in(c: Context, st: &mut [usize])
-    requires { ⌜ length (now st) ≡ lentSize ⌝ }
-    ensures { λ _. ⌜ length (now (st .exit)) ≡ lentSize ⌝ }
-    ensures { λ _. ⌜ lentState (now (st .exit)) ≡ touchIn Holds c (lentState (now (st .entry))) ⌝ }
+fn touched_leaf(l: Leaf, t: Touch) -> Leaf
+    ensures { λ r. ⌜ r ≡ touched t l ⌝ }
 {
-    let a = slot_of(c);
-    if a < lent::SIZE {
-        let l = lent::leaf_at(st, a);
-        lent::put_leaf(st, a, reads::mark(l));
+    match t {
+        Touch::Holds => reads::mark(l),
+        Touch::Stands(at) => reads::find(l, at),
     }
 }
 
-// One more leaf of the context c stands, whose value begins at `at`.
-fn stand_in(c: Context, at: usize, st: &mut [usize])
+// Touches the leaf of the context c; where c is no leaf, nothing.
+fn touch_leaf(c: Context, t: Touch, st: &mut [usize])
     requires { ⌜ length (now st) ≡ lentSize ⌝ }
     ensures { λ _. ⌜ length (now (st .exit)) ≡ lentSize ⌝ }
-    ensures { λ _. ⌜ lentState (now (st .exit)) ≡ touchIn (Stands at) c (lentState (now (st .entry))) ⌝ }
+    ensures { λ _. ⌜ lentState (now (st .exit)) ≡ touchIn t c (lentState (now (st .entry))) ⌝ }
 {
     let a = slot_of(c);
     if a < lent::SIZE {
         let l = lent::leaf_at(st, a);
-        lent::put_leaf(st, a, reads::find(l, at));
+        lent::put_leaf(st, a, touched_leaf(l, t));
     }
 }
 
@@ -136,8 +138,8 @@ fn leave_geocode(s: &[u8], st: &mut [usize])
 // What a geocode adds to the locations, by its valueName and its value.
 fn add_location(s: &[u8], st: &mut [usize], name: Leaf, value: Leaf)
     requires { ⌜ length (now st) ≡ lentSize ⌝ }
-    ensures { λ _. ⌜ ButFor (now (st .entry)) (now (st .exit)) 51 34 ⌝ }
-    ensures { λ _. ⌜ lentLocations (now (st .exit)) 51 ≡ locationStep (now (s .entry)) (lentLocations (now (st .entry)) 51) name value ⌝ }
+    ensures { λ _. ⌜ ButFor (now (st .entry)) (now (st .exit)) locationsFrom 34 ⌝ }
+    ensures { λ _. ⌜ lentLocations (now (st .exit)) locationsFrom ≡ locationStep (now (s .entry)) (lentLocations (now (st .entry)) locationsFrom) name value ⌝ }
 {
     if !reads::is_pair(name, value) {
         lent::put_bit(st, lent::LOCATIONS + 2, true);
@@ -156,8 +158,8 @@ fn add_location(s: &[u8], st: &mut [usize], name: Leaf, value: Leaf)
 // The language of the info that has been read: the alert is at fault where it is.
 fn fault_language(st: &mut [usize])
     requires { ⌜ length (now st) ≡ lentSize ⌝ }
-    ensures { λ _. ⌜ ButFor (now (st .entry)) (now (st .exit)) 22 1 ⌝ }
-    ensures { λ _. ⌜ isSet (numberIn (now (st .exit)) 22) ≡ languageFault (lentState (now (st .entry)) .alert) (lentState (now (st .entry)) .info) ⌝ }
+    ensures { λ _. ⌜ ButFor (now (st .entry)) (now (st .exit)) faultAt 1 ⌝ }
+    ensures { λ _. ⌜ isSet (numberIn (now (st .exit)) faultAt) ≡ languageFault (lentState (now (st .entry)) .alert) (lentState (now (st .entry)) .info) ⌝ }
 {
     let l = lent::leaf_at(st, lent::INFO);
     if !reads::is_sound(l) {
@@ -218,9 +220,9 @@ fn leave(s: &[u8], k: Context, at: usize, st: &mut [usize])
         Context::Resource => leave_resource(s, st),
         Context::Info => leave_info(s, st),
         Context::Later => leave_later(s.len(), st),
-        Context::AlertLeaf(_) => stand_in(k, at, st),
-        Context::InfoLeaf(_) => stand_in(k, at, st),
-        Context::PairLeaf(_) => stand_in(k, at, st),
+        Context::AlertLeaf(_) => touch_leaf(k, Touch::Stands(at), st),
+        Context::InfoLeaf(_) => touch_leaf(k, Touch::Stands(at), st),
+        Context::PairLeaf(_) => touch_leaf(k, Touch::Stands(at), st),
         Context::Root => return,
         Context::Alert => return,
         Context::Area => return,
@@ -272,13 +274,13 @@ fn read_element(s: &[u8], p: &[u8], at: usize, depth: usize, c: Context, st: &mu
         Open::Shut => End::No,
         Open::Empty(a, j) => {
             let k = reads::context_of(s, p, at + 1, a, c, lent::kept_at(st));
-            mark_in(c, st);
+            touch_leaf(c, Touch::Holds, st);
             leave(s, k, s.len(), st);
             End::At(j)
         }
         Open::Full(a, j) => {
             let k = reads::context_of(s, p, at + 1, a, c, lent::kept_at(st));
-            mark_in(c, st);
+            touch_leaf(c, Touch::Holds, st);
             let e = read_content(s, p, j, depth - 1, k, st);
             match e {
                 End::At(q) => finish(s, at, a, j, q, k, st),

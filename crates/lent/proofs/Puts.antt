@@ -1,5 +1,5 @@
 -- Parts that are put number by number.
---     leaf-put, audio-put              two numbers and a bit, one behind the other
+--     three-put                        two numbers and a bit, one behind the other
 --     events-put, parameters-put       leaves and bits, one behind the other
 --     numbers-put                      one number among several
 --     location-put, location-full      one location more, and none
@@ -28,6 +28,9 @@ PutNumber l m a x = ButFor l m a 1 × (numberIn m a ≡ x)
 
 abbrev pub PutBit : List ℕ → List ℕ → ℕ → Bool → Type 0
 PutBit l m a b = ButFor l m a 1 × (isSet (numberIn m a) ≡ b)
+
+abbrev pub PutThree : List ℕ → List ℕ → ℕ → ℕ → ℕ → Bool → Type 0
+PutThree l m a x y b = ButFor l m a 3 × ((numberIn m a ≡ x) × ((narrowed (numberIn m (a + 1)) ≡ y) × (isSet (numberIn m (a + 2)) ≡ b)))
 
 abbrev pub PutLeaf : List ℕ → List ℕ → ℕ → Leaf → Type 0
 PutLeaf l m a x = ButFor l m a 3 × (lentLeaf m a ≡ x)
@@ -63,11 +66,8 @@ module _ {l m o p : List ℕ} (a x y : ℕ) (b : Bool) (u : PutNumber l m a x) (
   three-second : y < 4294967296 → narrowed (numberIn p (a + 1)) ≡ y
   three-second h = ap narrowed (w .0 .same (a + 1) (inl (omega arith)) ∙ v .1) ∙ narrow-small y h
 
-  pub leaf-put : y < 4294967296 → PutLeaf l p a record { at = x; count = y; holds = b }
-  leaf-put h = (three-but, rw (three-first, three-second h, w .1))
-
-  pub audio-put : y < 4294967296 → PutAudio l p a record { uri = x; number = y; fault = b }
-  audio-put h = (three-but, rw (three-first, three-second h, w .1))
+  pub three-put : y < 4294967296 → PutThree l p a x y b
+  three-put h = (three-but, (three-first, (three-second h, w .1)))
 
 -- ---- leaves and bits
 

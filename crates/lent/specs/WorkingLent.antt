@@ -90,11 +90,20 @@ lentInfo l a = record {
 -- ---- the state
 
 -- where a part begins, and how many numbers there are
+abbrev pub keptAt : ℕ
+keptAt = 21
+
+abbrev pub faultAt : ℕ
+faultAt = 22
+
 abbrev pub pairFrom : ℕ
 pairFrom = 23
 
 abbrev pub infoFrom : ℕ
 infoFrom = 29
+
+abbrev pub locationsFrom : ℕ
+locationsFrom = 51
 
 abbrev pub chosenFrom : ℕ
 chosenFrom = 95
@@ -106,8 +115,8 @@ unfoldable pub lentState : List ℕ → State
 lentState l = record {
   alert = record {
     leaf = lentLeaves 7 l 0;
-    kept = keptNumbered (numberIn l 21);
-    fault = isSet (numberIn l 22);
+    kept = keptNumbered (numberIn l keptAt);
+    fault = isSet (numberIn l faultAt);
     info = lentInfo l chosenFrom;
   };
   info = lentInfo l infoFrom;

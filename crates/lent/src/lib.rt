@@ -13,7 +13,7 @@ ghost use Prim.Native.Nat.{_+_, _*_, _≤_};
 ghost use lib.ListN.{length, replicate};
 ghost use Rattle.reads.specs.WorkingLeaves.{noLeaf, noInfo, nothingRead};
 ghost use Rattle.reads.specs.WorkingSteps.{withLocation};
-ghost use Rattle.lent.specs.WorkingLent.{numberIn, narrowed, isSet, keptNumbered, lentLeaf, lentLeaves, lentNumbers, lentEvents, lentAudio, lentLocations, lentParameters, lentInfo, pairFrom, infoFrom, chosenFrom, lentSize, lentState, ButFor, Zeros};
+ghost use Rattle.lent.specs.WorkingLent.{numberIn, narrowed, isSet, keptNumbered, lentLeaf, lentLeaves, lentNumbers, lentEvents, lentAudio, lentLocations, lentParameters, lentInfo, keptAt, pairFrom, infoFrom, chosenFrom, lentSize, lentState, ButFor, Zeros};
 
 // Which info is kept.
 pub const KEPT: usize = 21;
@@ -96,9 +96,20 @@ pub fn put_leaf(st: &mut [usize], a: usize, l: Leaf)
     ensures { λ _. ⌜ ButFor (now (st .entry)) (now (st .exit)) a 3 ⌝ }
     ensures { λ _. ⌜ lentLeaf (now (st .exit)) a ≡ l ⌝ }
 {
-    put_number(st, a, l.at);
-    put_number(st, a + 1, l.count as usize);
-    put_bit(st, a + 2, l.holds);
+    put_three(st, a, l.at, l.count, l.holds);
+}
+
+// Two numbers and a bit, one behind the other: a leaf, or the audio choice.
+fn put_three(st: &mut [usize], a: usize, x: usize, y: u32, b: bool)
+    requires { ⌜ a + 3 ≤ length (now st) ⌝ }
+    ensures { λ _. ⌜ ButFor (now (st .entry)) (now (st .exit)) a 3 ⌝ }
+    ensures { λ _. ⌜ numberIn (now (st .exit)) a ≡ x ⌝ }
+    ensures { λ _. ⌜ narrowed (numberIn (now (st .exit)) (a + 1)) ≡ y ⌝ }
+    ensures { λ _. ⌜ isSet (numberIn (now (st .exit)) (a + 2)) ≡ b ⌝ }
+{
+    put_number(st, a, x);
+    put_number(st, a + 1, y as usize);
+    put_bit(st, a + 2, b);
 }
 
 // Two leaves that are absent from a message of n bytes: a pair that is read anew.
@@ -162,9 +173,7 @@ pub fn put_audio(st: &mut [usize], a: usize, e: Audio)
     ensures { λ _. ⌜ ButFor (now (st .entry)) (now (st .exit)) a 3 ⌝ }
     ensures { λ _. ⌜ lentAudio (now (st .exit)) a ≡ e ⌝ }
 {
-    put_number(st, a, e.uri);
-    put_number(st, a + 1, e.number as usize);
-    put_bit(st, a + 2, e.fault);
+    put_three(st, a, e.uri, e.number, e.fault);
 }
 
 pub fn parameters_at(st: &[usize], a: usize) -> Parameters
@@ -235,7 +244,7 @@ fn list_at(st: &[usize], a: usize) -> [u32; 31]
 
 pub fn kept_at(st: &[usize]) -> Kept
     requires { ⌜ length (now st) ≡ lentSize ⌝ }
-    ensures { λ r. ⌜ r ≡ keptNumbered (numberIn (now (st .entry)) 21) ⌝ }
+    ensures { λ r. ⌜ r ≡ keptNumbered (numberIn (now (st .entry)) keptAt) ⌝ }
 {
     let n = st[KEPT];
     if n == 0 {

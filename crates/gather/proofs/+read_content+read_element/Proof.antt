@@ -27,12 +27,13 @@ use Rattle.reads.proofs.context_of.Reads as context-of-reads
 use Rattle.lent.specs.WorkingLent.{keptNumbered, numberIn, lentSize, lentState}
 use Rattle.lent.proofs.kept_at.Reads as kept-at-reads
 use Rattle.gather.specs.declared.Gathered.{Gathered}
-use Rattle.gather.specs.WorkingVisit.{Holds, touchIn, settled, gotHeld}
+use Rattle.gather.specs.declared.Touch.the-variants.{Holds}
+use Rattle.gather.specs.WorkingVisit.{touchIn, settled, gotHeld}
 use Rattle.gather.specs.WorkingLentVisit.{gotIn}
 use Rattle.gather.proofs.Passes as pass
 use Rattle.gather.proofs.finish.Reads as finish-reads
 use Rattle.gather.proofs.leave.Reads as leave-reads
-use Rattle.gather.proofs.mark_in.Reads as mark-in-reads
+use Rattle.gather.proofs.touch_leaf.Reads as touch-leaf-reads
 use Rattle.gather.proofs.read_content.Reads as read-content
 use Rattle.gather.proofs.read_content.Kinds as read-content-kinds
 use Rattle.gather.proofs.read_element.Reads as read-element
@@ -233,8 +234,8 @@ element-calls t = (
   kept-at-reads.Learnt,
   context-of-reads.Asked,
   context-of-reads.Learnt,
-  mark-in-reads.Asked,
-  mark-in-reads.Learnt,
+  touch-leaf-reads.Asked,
+  touch-leaf-reads.Learnt,
   leave-reads.Asked,
   leave-reads.Learnt,
   read-content-below t,
@@ -293,7 +294,7 @@ held-told : (t : ℕ) (c : Inside-read t)
     let st = lentState (now (a .st)) in
     let k = pass.inner s p (a .c) st (a .depth) (a .at) (o .o2 .given .0 .0) in
     settled (length s) (held-got t c) ≡ gotHeld s p k (touchIn Holds (a .c) st) (contentAt s (a .depth - 1) (o .o2 .given .0 .1 .0))
-held-told t c = rw (c .before .before .before .before .mark-in2 .ensures .1, held-inner t c) at (c .read-content .ensures .1)
+held-told t c = rw (c .before .before .before .before .touch-leaf2 .ensures .1, held-inner t c) at (c .read-content .ensures .1)
 
 read-element-returns : (t : ℕ) → read-element-lts.Need-returns (element-calls t) (read-element-at t) read-element.Post
 read-element-returns t c = (c .before .before .before .before .pre .1, pass.one-deep _ _ _ _ _ _ (c .if1 .taken))
@@ -323,8 +324,8 @@ read-element-context-of-requires t c κs =
     let n = empty-named _ _ _ _ (opened t (o .before .before) (Empty _ _) (o .o .given .1)) in
     (omega (arith, n .0), n .1)
 
-read-element-mark-in-requires : (t : ℕ) → read-element-lts.Need-mark-in-requires (element-calls t) (read-element-at t) read-element.Post
-read-element-mark-in-requires t c κs = search needs
+read-element-touch-leaf-requires : (t : ℕ) → read-element-lts.Need-touch-leaf-requires (element-calls t) (read-element-at t) read-element.Post
+read-element-touch-leaf-requires t c κs = search needs
 
 read-element-leave-requires : (t : ℕ) → read-element-lts.Need-leave-requires (element-calls t) (read-element-at t) read-element.Post
 read-element-leave-requires t c κs = search needs
@@ -348,8 +349,8 @@ read-element-context-of-requires-2 t c κs =
     let n = full-named _ _ _ _ (opened t (o .before .before) (Full _ _) (o .o2 .given .1)) in
     (omega (arith, n .0), n .1)
 
-read-element-mark-in-requires-2 : (t : ℕ) → read-element-lts.Need-mark-in-requires-2 (element-calls t) (read-element-at t) read-element.Post
-read-element-mark-in-requires-2 t c κs = search needs
+read-element-touch-leaf-requires-2 : (t : ℕ) → read-element-lts.Need-touch-leaf-requires-2 (element-calls t) (read-element-at t) read-element.Post
+read-element-touch-leaf-requires-2 t c κs = search needs
 
 read-element-sub-read-content : (t : ℕ) → read-element-lts.Need-sub-read-content (element-calls t) (read-element-at t) read-element.Post
 read-element-sub-read-content t c = search needs
@@ -388,7 +389,7 @@ read-element-returns-3 t c =
     let k = o .before .before in
     let i = inside _ _ _ _ _ _ _ _ (x .before .kept-at .ensures) (x .context-of .ensures) in
     let e = opened t k (Empty _ _) (o .o .given .1) in
-    (l .0, rw (l .1, m .mark-in .ensures .1, i) (pass.one-empty _ _ _ _ _ _ _ (level t k) _ _ e))
+    (l .0, rw (l .1, m .touch-leaf .ensures .1, i) (pass.one-empty _ _ _ _ _ _ _ (level t k) _ _ e))
 
 read-element-same-length-2 : (t : ℕ) → read-element-lts.Need-same-length-2 (element-calls t) (read-element-at t) read-element.Post
 read-element-same-length-2 t c = search needs
@@ -454,13 +455,13 @@ pub +read-content+read-element-spec : {M : Type 1} → statement M
     (read-element-add-context-of t)
     (read-element-kept-at-requires t)
     (read-element-context-of-requires t)
-    (read-element-mark-in-requires t)
+    (read-element-touch-leaf-requires t)
     (read-element-leave-requires t)
     (read-element-enum-known-o-2 t)
     (read-element-add-context-of-2 t)
     (read-element-kept-at-requires-2 t)
     (read-element-context-of-requires-2 t)
-    (read-element-mark-in-requires-2 t)
+    (read-element-touch-leaf-requires-2 t)
     (read-element-sub-read-content t)
     (read-element-read-content-requires t)
     (read-element-enum-known-e t)

@@ -44,20 +44,20 @@ leave-later-requires c κs = search needs
 enum-told-7 : tie.Need-enum-told-7
 enum-told-7 c = search needs
 
-stand-in-requires : tie.Need-stand-in-requires
-stand-in-requires c κs = search needs
+touch-leaf-requires : tie.Need-touch-leaf-requires
+touch-leaf-requires c κs = search needs
 
 enum-told-8 : tie.Need-enum-told-8
 enum-told-8 c = search needs
 
-stand-in-requires-2 : tie.Need-stand-in-requires-2
-stand-in-requires-2 c κs = search needs
+touch-leaf-requires-2 : tie.Need-touch-leaf-requires-2
+touch-leaf-requires-2 c κs = search needs
 
 enum-told-9 : tie.Need-enum-told-9
 enum-told-9 c = search needs
 
-stand-in-requires-3 : tie.Need-stand-in-requires-3
-stand-in-requires-3 c κs = search needs
+touch-leaf-requires-3 : tie.Need-touch-leaf-requires-3
+touch-leaf-requires-3 c κs = search needs
 
 enum-told-10 : tie.Need-enum-told-10
 enum-told-10 c = search needs
@@ -147,7 +147,7 @@ same-length-7 c = search needs
 returns-11 : tie.Need-returns-11
 unfolding left
 returns-11 c =
-    let left-it = c .before .before .stand-in .ensures in
+    let left-it = c .before .before .touch-leaf .ensures in
     (left-it .0, left-it .1 ∙ rw (c .before .before .before .before .enum-told7 .given .1))
 
 same-length-8 : tie.Need-same-length-8
@@ -156,7 +156,7 @@ same-length-8 c = search needs
 returns-12 : tie.Need-returns-12
 unfolding left
 returns-12 c =
-    let left-it = c .before .before .stand-in2 .ensures in
+    let left-it = c .before .before .touch-leaf2 .ensures in
     (left-it .0, left-it .1 ∙ rw (c .before .before .before .before .enum-told8 .given .1))
 
 same-length-9 : tie.Need-same-length-9
@@ -165,7 +165,7 @@ same-length-9 c = search needs
 returns-13 : tie.Need-returns-13
 unfolding left
 returns-13 c =
-    let left-it = c .before .before .stand-in3 .ensures in
+    let left-it = c .before .before .touch-leaf3 .ensures in
     (left-it .0, left-it .1 ∙ rw (c .before .before .before .before .enum-told9 .given .1))
 
 pub leave-spec : {M : Type 1} → statement M
@@ -185,11 +185,11 @@ leave-spec =
     enum-told-6
     leave-later-requires
     enum-told-7
-    stand-in-requires
+    touch-leaf-requires
     enum-told-8
-    stand-in-requires-2
+    touch-leaf-requires-2
     enum-told-9
-    stand-in-requires-3
+    touch-leaf-requires-3
     enum-told-10
     returns
     enum-told-11

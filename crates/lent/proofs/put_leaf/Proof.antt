@@ -1,48 +1,16 @@
-use native.Mathlib.Omega.{arith}
-use Rattle.lent.proofs.Puts.{leaf-put}
+-- The three numbers of a leaf.
 use borrow.Author.Needs.{needs}
 use Rattle.lent.proofs.put_leaf.Statement.{statement}
 use Rattle.lent.proofs.put_leaf.Tie as tie
 
-put-number-requires : tie.Need-put-number-requires
-put-number-requires c κs = search needs
-
-add-put-number : tie.Need-add-put-number
-add-put-number c = search needs
-
-cast-put-number : tie.Need-cast-put-number
-cast-put-number c = search needs
-
-put-number-requires-2 : tie.Need-put-number-requires-2
-put-number-requires-2 c κs = search needs
-
-add-put-bit : tie.Need-add-put-bit
-add-put-bit c = search needs
-
-put-bit-requires : tie.Need-put-bit-requires
-put-bit-requires c κs = search needs
+put-three-requires : tie.Need-put-three-requires
+put-three-requires c κs = search needs
 
 same-length : tie.Need-same-length
 same-length c = search needs
 
 returns : tie.Need-returns
-returns c =
-    let third = c .before .before in
-    let second = third .before .before .before .before in
-    let first = second .before .before .before .before .before in
-    let args = first .before .before .before .args in
-    leaf-put (args .a) (args .l .at) (args .l .count) (args .l .holds)
-    (first .put-number .ensures) (second .put-number2 .ensures) (third .put-bit .ensures) (omega arith)
+returns c = let e = c .before .before .put-three .ensures in (e .0, rw (e .1 .0, e .1 .1 .0, e .1 .1 .1))
 
 pub put-leaf-spec : {M : Type 1} → statement M
-put-leaf-spec =
-    tie.close
-    (tie.spec
-    put-number-requires
-    add-put-number
-    cast-put-number
-    put-number-requires-2
-    add-put-bit
-    put-bit-requires
-    same-length
-    returns)
+put-leaf-spec = tie.close (tie.spec put-three-requires same-length returns)
