@@ -147,10 +147,19 @@ fn number_of(t: MsgType) -> u32 {
     }
 }
 
-// Number and field; and, of a message that is read, its msgType's number, the instant of sent, and what is in its alert.
+// The number of 4 to 10 that applies, whatever else a header asks.
+fn number_to_ten(number: u32) -> u32 {
+    if 10 < number {
+        return 0;
+    }
+    number
+}
+
+// Number of 4 to 10 and field; and, of a message that is read, its msgType's number, the instant of sent, and what is in its alert.
 fn put_found(s: &[u8], out: &mut [u8]) -> usize {
-    let m = message::read(s);
-    let number = crate::lines::put_decimal(out, 0, m.number);
+    let j = judgement::judge(s);
+    let m = j.message;
+    let number = crate::lines::put_decimal(out, 0, number_to_ten(j.number));
     let field = crate::lines::put_spaced(out, number, m.field);
     if is_unread(m.number) {
         return field;

@@ -1,11 +1,11 @@
--- What is said in the alert of a message s, on its tree: numbers 4 to 10, and the field beside 7.
---     message-number       the lowest of 4 to 10 that applies
+-- What is said in the alert of a message s, on its tree: numbers 4 to 9, and the field beside 7.
+--     message-number       the lowest of 4 to 9 that applies
 --     message-field        the lowest field at fault beside 7, and 0 beside any other number
---     message-said         a message that passes 4 to 10 is what is said in its alert
+--     message-said         a message that passes 4 to 9 is what is said in its alert
 --     message-faultless    and then no field is at fault
 use Prim.Native.Nat.{ℕ}
 use mathlib.Core.Path.{_≡_, refl, sym, ap, _∙_}
-use mathlib.Core.Bool.{Bool, true, false, _&&_, or-false}
+use mathlib.Core.Bool.{Bool, true, false, _&&_, not, or-false}
 use mathlib.Core.List.{List, [], _∷_}
 use native.Mathlib.Omega.{arith}
 use borrow.Author.Tests.{eqb-true, not-false}
@@ -18,13 +18,13 @@ use Rattle.fields.specs.WorkingFields.{statuses, scopes, msgTypeIn}
 use Rattle.markup.specs.Tree.{One, one, none}
 use Rattle.markup.specs.Document.{docAt}
 use Rattle.gather.specs.WorkingRead.{alertOf}
-use Rattle.reads.specs.WorkingLeaves.{referencesLeaf}
-use Rattle.message.specs.WorkingJudged.{statusOf, msgTypeOf, scopeOf, isAckOrError, asksReferences, isCancel, fieldOf, numberWith}
+use Rattle.message.specs.WorkingJudged.{statusOf, msgTypeOf, scopeOf, isAckOrError, fieldOf, numberWith}
 use Rattle.message.specs.WorkingMessage.{refusedAs, judged, judgedRoot, ofRoot, messageSays}
 use Rattle.message.specs.declared.Message.{Message}
-use Rattle.told.specs.Values.{is, isOne}
-use Rattle.demands.specs.Message.{prefixIn, contentIn, prefix, alert, status, msgType, scope, sentSeconds}
-use Rattle.demands.specs.Numbers.{lowestIn, noneApplies, isRead, rootIs, fieldRows, fieldBeside, messageRows}
+use Rattle.judgement.specs.WorkingRules.{asksReferences, lacksReferences, isCancel}
+use Rattle.told.specs.Values.{is, isOne, once}
+use Rattle.demands.specs.Message.{prefixIn, contentIn, prefix, alert, status, msgType, scope, references, sentSeconds}
+use Rattle.demands.specs.Numbers.{lowestIn, noneApplies, isRead, rootIs, areGroups, fieldRows, fieldBeside, messageRows}
 use Rattle.demands.proofs.Rows.{held, held-when, at-pick, pick-same, none-lowest, none-test, each-off}
 use Rattle.demands.proofs.MsgTypes.{ack-or-error-is, asks-references-is, cancel-is}
 use Rattle.demands.proofs.Fields.{timed-is, referenced-is, typed-once, place-test, alert-real, read, field-is, Faultless, faultless}
@@ -64,15 +64,17 @@ module _ (s : List ℕ) (k : Faultless s) where
   pub cancel-said : isCancel (msgTypeOf s (read s)) ≡ is "Cancel" (msgType s)
   cancel-said = ap isCancel type-said ∙ cancel-is (msgType s)
 
-  -- 8 to 10
-  passing-number : numberWith s 0 (statusOf s (read s)) (scopeOf s (read s)) (msgTypeOf s (read s)) (referencesLeaf (read s)) ≡ lowestIn (drop 4 (messageRows s))
-  unfolding alertOf numberWith lowestIn
-  passing-number =
-      rw (status-said, scope-said)
-      (held (is "Actual" (status s) && is "Public" (scope s)) 8 _ (drop 5 (messageRows s))
-      (rw (other-said, naming-said, referenced-is s (prefix s) "references" (alert s) (alert-real s))))
+  pub lacking-said : lacksReferences s (said s) ≡ (isOne ("Update" ∷ "Cancel" ∷ []) (msgType s) && not (once s (prefix s) "references" (alert s) && areGroups (references s)))
+  unfolding lacksReferences alertOf judged
+  lacking-said = rw (naming-said, referenced-is s (prefix s) "references" (alert s) (alert-real s))
 
--- ---- 7 to 10
+  -- 8 and 9
+  passing-number : numberWith 0 (statusOf s (read s)) (scopeOf s (read s)) (msgTypeOf s (read s)) ≡ lowestIn (drop 4 (messageRows s))
+  unfolding numberWith lowestIn
+  passing-number =
+      rw (status-said, scope-said) (held (is "Actual" (status s) && is "Public" (scope s)) 8 _ (drop 5 (messageRows s)) (rw other-said))
+
+-- ---- 7 to 9
 
 module _ (s : List ℕ) where
   said-number : said s .number ≡ lowestIn (drop 3 (messageRows s))
@@ -92,7 +94,7 @@ module _ (s : List ℕ) where
           go true q = rw (sym e, eqb-true f 0 q, pick-same {A = ℕ} (eqb x 7) 0)
           go false q = e
 
--- ---- 4 to 10
+-- ---- 4 to 9
 
 -- of the root o: refused with 5 or 6, or what is said in the alert
 abbrev rooted : List ℕ → One → Message

@@ -22,7 +22,8 @@ use Rattle.markup.specs.Document.{docAt}
 use Rattle.reads.specs.declared.Alert.{Alert}
 use Rattle.gather.specs.WorkingRead.{leafIn, alertOf}
 use Rattle.leaves.proofs.Reals.{AllReal, leaf-is}
-use Rattle.message.specs.WorkingJudged.{identified, timed, placeAmong, typed, isUnknown, infoOk, fieldOf, referenced}
+use Rattle.message.specs.WorkingJudged.{identified, timed, placeAmong, typed, isUnknown, infoOk, fieldOf}
+use Rattle.judgement.specs.WorkingRules.{referenced}
 use Rattle.told.specs.Values.{isOne, valueOf, once, infoSound, languagesSound}
 use Rattle.told.proofs.Leaves.{leaf-once, leaf-value}
 use Rattle.told.proofs.Alerts.{info-sound, selected-tells, selected-real, languages-fault}

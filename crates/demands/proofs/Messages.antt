@@ -18,10 +18,10 @@ use Rattle.values.specs.Value.{valueAt}
 use Rattle.gather.specs.WorkingRead.{leafIn, alertOf}
 use Rattle.message.specs.WorkingMessage.{judged, messageSays}
 use Rattle.message.specs.declared.Message.{Message}
-use Rattle.judgement.specs.WorkingRules.{located, quietOf}
+use Rattle.judgement.specs.WorkingRules.{lacksReferences, located, quietOf}
 use Rattle.judgement.specs.WorkingJudged.{without, bodyWith, bodyIn, alerted, judgedBy, judgedOf}
 use Rattle.judgement.specs.declared.Judged.{Judged}
-use Rattle.judgement.proofs.Answers.{alerted-holds, judged-holds}
+use Rattle.judgement.proofs.Answers.{alerted-holds, judged-holds, passed}
 use Rattle.judgement.proofs.Bodies.{alerting, alert-body, message-kept}
 use Rattle.convert.specs.WorkingConvert.{textIn, uriIn, alertGiven}
 use Rattle.records.specs.Record.{notice, withdrawal}
@@ -33,13 +33,13 @@ use Rattle.demands.specs.Board.{ownKey, ownHeader, namedKeys, messageRec
 use Rattle.demands.specs.Numbers.{NumberRow, row, lowestIn, fieldBeside, messageRows, headerRows, takenRows}
 use Rattle.demands.proofs.Rows.{held, at-pick, pick-same, lowest-append}
 use Rattle.demands.proofs.Fields.{alert-real, read, Faultless}
-use Rattle.demands.proofs.Alerts.{said, sent-said, naming-said, message-number, message-field, message-said, message-faultless}
+use Rattle.demands.proofs.Alerts.{said, sent-said, naming-said, lacking-said, message-number, message-field, message-said, message-faultless}
 use Rattle.demands.proofs.Infos.{told, all-pass, hasEvent, hasOrigin, hasPlaces, hasEnd}
 use Rattle.demands.proofs.Infos.{event-said, origin-said, known-said, places-said, lasting-said, ended-said, quiet-said}
 
--- ---- 11 to 14
+-- ---- 10 to 14
 
--- their rows, where the message is quiet or not
+-- the rows of 11 to 14, where the message is quiet or not
 abbrev rowsWhere : Bool → List ℕ → List NumberRow
 rowsWhere quiet s =
     row 11 (not quiet && not (hasEvent s))
@@ -47,6 +47,10 @@ rowsWhere quiet s =
     ∷ row 13 (not quiet && not (hasPlaces s))
     ∷ row 14 (not quiet && not (hasEnd s))
     ∷ []
+
+-- what is answered of a message that passes 4 to 9
+abbrev headerNumber : List ℕ → Message → ℕ
+headerNumber s m = pick (lacksReferences s m) 10 (pick (quietOf m) 0 (alerted s m .number))
 
 module _ (s : List ℕ) (k : Faultless s) where
   loud-number : alerted s (said s) .number ≡ lowestIn (rowsWhere false s)
@@ -60,9 +64,9 @@ module _ (s : List ℕ) (k : Faultless s) where
       (at-pick f (hasPlaces s) _ _ ∙ held (hasPlaces s) 13 _ (drop 3 rows)
       (at-pick f (not (hasEnd s)) _ _))))
 
-  asked-number : pick (quietOf (said s)) 0 (alerted s (said s) .number) ≡ lowestIn (headerRows s)
+  asked-number : headerNumber s (said s) ≡ lowestIn (headerRows s)
   unfolding lowestIn
-  asked-number = rw (quiet-said s k) (go (isQuiet s))
+  asked-number = rw (lacking-said s k, quiet-said s k, go (isQuiet s))
     where
       go : (b : Bool) → pick b 0 (alerted s (said s) .number) ≡ lowestIn (rowsWhere b s)
       go true = refl
@@ -75,29 +79,30 @@ module _ (s : List ℕ) where
   unfolding judgedBy every
   judged-number =
       let f : Judged → ℕ = λ (j : Judged). j .number in
-      at-pick f (eqb (m .number) 0) _ _ ∙ ap (λ (n : ℕ). pick (eqb (m .number) 0) n (m .number)) (at-pick f (quietOf m) _ _)
+      at-pick f (eqb (m .number) 0) _ _
+      ∙ ap (λ (n : ℕ). pick (eqb (m .number) 0) n (m .number)) (at-pick f (lacksReferences s m) _ _ ∙ ap (pick (lacksReferences s m) 10) (at-pick f (quietOf m) _ _))
       ∙ go (eqb (m .number) 0) refl ∙ ap (λ (n : ℕ). pick (eqb n 0) (lowestIn (headerRows s)) n) (message-number s)
       ∙ sym (lowest-append (messageRows s) (headerRows s) refl)
     where
       m : Message
       m = messageSays s
 
-      go : (b : Bool) → eqb (m .number) 0 ≡ b → pick b (pick (quietOf m) 0 (alerted s m .number)) (m .number) ≡ pick b (lowestIn (headerRows s)) (m .number)
+      go : (b : Bool) → eqb (m .number) 0 ≡ b → pick b (headerNumber s m) (m .number) ≡ pick b (lowestIn (headerRows s)) (m .number)
       go true e =
           let z = eqb-true (m .number) 0 e in
-          ap (λ (x : Message). pick (quietOf x) 0 (alerted s x .number)) (message-said s z) ∙ asked-number s (message-faultless s z)
+          ap (headerNumber s) (message-said s z) ∙ asked-number s (message-faultless s z)
       go false e = refl
 
   pub judged-field : judgedOf s .field ≡ fieldBeside (judgedOf s .number) s
   judged-field =
       let P : Judged → Type 0 = λ (j : Judged). j .field ≡ fieldBeside (j .number) s in
-      judged-holds s m P (λ e. message-field s) (λ e. unless 0 (eqb-true (m .number) 0 e))
+      judged-holds s m P (λ e. message-field s) (λ e. unless 10 (eqb-true (m .number) 0 e)) (λ e. unless 0 (eqb-true (m .number) 0 e))
       (λ e. let z = eqb-true (m .number) 0 e in alerted-holds s m P (λ n h. unless n z) (unless 0 z))
     where
       m : Message
       m = messageSays s
 
-      -- where none of 4 to 10 applies the field is 0, whatever is answered
+      -- where none of 4 to 9 applies the field is 0, whatever is answered
       unless : (n : ℕ) → m .number ≡ 0 → m .field ≡ fieldBeside n s
       unless n z = message-field s ∙ rw (z, message-faultless s z .none-at-fault, pick-same {A = ℕ} (eqb n 7) 0)
 
@@ -110,12 +115,7 @@ take-map f (suc n) (x ∷ xs) = ap (λ ys. f x ∷ ys) (take-map f n xs)
 
 module _ (s : List ℕ) (zero : judgedOf s .number ≡ 0) where
   message-zero : messageSays s .number ≡ 0
-  unfolding judgedBy
-  message-zero = go (eqb (messageSays s .number) 0) refl
-    where
-      go : (b : Bool) → eqb (messageSays s .number) 0 ≡ b → messageSays s .number ≡ 0
-      go true e = eqb-true (messageSays s .number) 0 e
-      go false e = rw e at zero
+  message-zero = passed s (messageSays s) zero .0
 
   is-said : messageSays s ≡ said s
   is-said = message-said s message-zero
@@ -128,7 +128,7 @@ module _ (s : List ℕ) (zero : judgedOf s .number ≡ 0) where
 
   pub quiet-is : judgedOf s .quiet ≡ isQuiet s
   unfolding judgedBy
-  quiet-is = rw (eq-eqb (messageSays s .number) 0 message-zero) (go (quietOf (messageSays s))) ∙ ap quietOf is-said ∙ quiet-said s sound
+  quiet-is = rw (eq-eqb (messageSays s .number) 0 message-zero, passed s (messageSays s) zero .1) (go (quietOf (messageSays s))) ∙ ap quietOf is-said ∙ quiet-said s sound
     where
       go : (b : Bool) → pick b (without (messageSays s) 0 true) (alerted s (messageSays s)) .quiet ≡ b
       go true = refl

@@ -9,7 +9,8 @@ use Rattle.octets.specs.Bytes.{same}
 use Rattle.octets.specs.Text.{bytes}
 use Rattle.octets.proofs.Sames.{same-is}
 use Rattle.fields.specs.WorkingFields.{msgTypeIn}
-use Rattle.message.specs.WorkingJudged.{isUnknown, isAckOrError, asksReferences, isCancel}
+use Rattle.message.specs.WorkingJudged.{isUnknown, isAckOrError}
+use Rattle.judgement.specs.WorkingRules.{asksReferences, isCancel}
 use Rattle.told.specs.Values.{is, isOne}
 
 -- those of CAP 1.2

@@ -85,8 +85,7 @@ fieldRows s =
 abbrev pub fieldBeside : ℕ → List ℕ → ℕ
 fieldBeside n s = pick (eqb n 7) (lowestIn (fieldRows s)) 0
 
--- 4 message length; 5 not of the subset; 6 root; 7 a read leaf at fault; 8 status not Actual, or scope not Public; 9 msgType Ack or Error;
--- 10 references missing, malformed or over 16, asked of Update and Cancel
+-- 4 message length; 5 not of the subset; 6 root; 7 a read leaf at fault; 8 status not Actual, or scope not Public; 9 msgType Ack or Error
 abbrev pub messageRows : List ℕ → List NumberRow
 messageRows s =
     row 4 (not (between 1 32768 (length s)))
@@ -95,18 +94,18 @@ messageRows s =
     ∷ row 7 (not (noneApplies (fieldRows s)))
     ∷ row 8 (not (is "Actual" (status s) && is "Public" (scope s)))
     ∷ row 9 (isOne ("Ack" ∷ "Error" ∷ []) (msgType s))
-    ∷ row 10 (isOne ("Update" ∷ "Cancel" ∷ []) (msgType s) && not (once s (prefix s) "references" (alert s) && areGroups (references s)))
     ∷ []
 
 -- three letters A to Z
 abbrev pub isEvent : List ℕ → Bool
 isEvent v = every holds (eqb (length v) 3 ∷ every isCapital v ∷ [])
 
--- a quiet Cancel isn't asked 11 to 14: 11 SAME event absent, twice or malformed; 12 originator; 13 SAME location absent or malformed;
--- 14 expires absent, malformed or not after sent
+-- 10 references missing, malformed or over 16, asked of Update and Cancel; a quiet Cancel isn't asked 11 to 14: 11 SAME event absent, twice or malformed;
+-- 12 originator; 13 SAME location absent or malformed; 14 expires absent, malformed or not after sent
 abbrev pub headerRows : List ℕ → List NumberRow
 headerRows s =
-    row 11 (not (isQuiet s) && not (eqb (length (events s)) 1 && isEvent (firstValue (events s))))
+    row 10 (isOne ("Update" ∷ "Cancel" ∷ []) (msgType s) && not (once s (prefix s) "references" (alert s) && areGroups (references s)))
+    ∷ row 11 (not (isQuiet s) && not (eqb (length (events s)) 1 && isEvent (firstValue (events s))))
     ∷ row 12 (not (isQuiet s) && not (isOne ("PEP" ∷ "EAS" ∷ "WXR" ∷ "CIV" ∷ []) (originator s)))
     ∷ row 13 (not (isQuiet s) && not (not (isNone (locations s)) && every isSix (locations s)))
     ∷ row 14 (not (isQuiet s) && not (isTime (timeOf (expires s)) && ltb (sentSeconds s) (expiresSeconds s)))

@@ -25,16 +25,17 @@ use Rattle.reads.specs.declared.Locations.{Locations}
 use Rattle.message.specs.WorkingMessage.{messageSays}
 use Rattle.message.specs.declared.Message.{Message}
 use Rattle.leaves.proofs.Fits.{LocationsFit, locations-fit, sent-in}
-use Rattle.judgement.specs.WorkingRules.{infoIn, eventIs, originOf, located, quietOf}
+use Rattle.judgement.specs.WorkingRules.{lacksReferences, infoIn, eventIs, originOf, located, quietOf}
 use Rattle.judgement.specs.WorkingJudged.{bodyWith, lasting, bodyIn, alerted, judgedBy, judgedOf}
 use Rattle.judgement.specs.declared.Judged.{Judged}
-use Rattle.judgement.proofs.Answers.{alerted-holds, judged-holds}
+use Rattle.judgement.proofs.Answers.{alerted-holds, judged-holds, passed}
 
 -- ---- the tests of 4 to 14
 
 -- what a message passes that answers 0 and is not quiet
 pub record Alerting (s : List ℕ) (m : Message) : Type 0 where
-  pub passed : eqb (m .number) 0 ≡ true
+  pub passing : eqb (m .number) 0 ≡ true
+  pub naming : lacksReferences s m ≡ false
   pub loud : quietOf m ≡ false
   pub event : eventIs s (infoIn m .events .same) ≡ true
   pub origin : isKnown (originOf s (infoIn m .parameters .originator)) ≡ true
@@ -45,23 +46,28 @@ module _ (s : List ℕ) (m : Message) where
   pub alerting : judgedBy s m .number ≡ 0 → judgedBy s m .quiet ≡ false → Alerting s m
   unfolding judgedBy alerted
   alerting h q =
-      go (eqb (m .number) 0) refl (quietOf m) refl (eventIs s (infoIn m .events .same)) refl
+      go (quietOf m) refl (eventIs s (infoIn m .events .same)) refl
       (isKnown (originOf s (infoIn m .parameters .originator))) refl (located (infoIn m .locations)) refl (eqb (lasting s m) 0) refl
     where
-      go : (a : Bool) → eqb (m .number) 0 ≡ a → (b : Bool) → quietOf m ≡ b → (c : Bool) → eventIs s (infoIn m .events .same) ≡ c →
+      a : eqb (m .number) 0 ≡ true
+      a = eq-eqb (m .number) 0 (passed s m h .0)
+
+      l : lacksReferences s m ≡ false
+      l = passed s m h .1
+
+      go : (b : Bool) → quietOf m ≡ b → (c : Bool) → eventIs s (infoIn m .events .same) ≡ c →
           (d : Bool) → isKnown (originOf s (infoIn m .parameters .originator)) ≡ d → (e : Bool) → located (infoIn m .locations) ≡ e →
           (f : Bool) → eqb (lasting s m) 0 ≡ f → Alerting s m
-      go false a b _ c _ d _ e _ f _ = let n : m .number ≡ 0 = rw a at h in absurd (eqb-false (m .number) 0 a n)
-      go true a true b c _ d _ e _ f _ = let n : true ≡ false = rw (a, b) at q in absurd (true≢false n)
-      go true a false b false c d _ e _ f _ = let n : _≡_ {A = ℕ} 11 0 = rw (a, b, c) at h in absurd (omega arith)
-      go true a false b true c false d e _ f _ = let n : _≡_ {A = ℕ} 12 0 = rw (a, b, c, d) at h in absurd (omega arith)
-      go true a false b true c true d false e f _ = let n : _≡_ {A = ℕ} 13 0 = rw (a, b, c, d, e) at h in absurd (omega arith)
-      go true a false b true c true d true e true f = let n : _≡_ {A = ℕ} 14 0 = rw (a, b, c, d, e, f) at h in absurd (omega arith)
-      go true a false b true c true d true e false f = record { passed = a; loud = b; event = c; origin = d; places = e; ends = f }
+      go true b c _ d _ e _ f _ = let n : true ≡ false = rw (a, l, b) at q in absurd (true≢false n)
+      go false b false c d _ e _ f _ = let n : _≡_ {A = ℕ} 11 0 = rw (a, l, b, c) at h in absurd (omega arith)
+      go false b true c false d e _ f _ = let n : _≡_ {A = ℕ} 12 0 = rw (a, l, b, c, d) at h in absurd (omega arith)
+      go false b true c true d false e f _ = let n : _≡_ {A = ℕ} 13 0 = rw (a, l, b, c, d, e) at h in absurd (omega arith)
+      go false b true c true d true e true f = let n : _≡_ {A = ℕ} 14 0 = rw (a, l, b, c, d, e, f) at h in absurd (omega arith)
+      go false b true c true d true e false f = record { passing = a; naming = l; loud = b; event = c; origin = d; places = e; ends = f }
 
   pub alert-body : Alerting s m → judgedBy s m .body ≡ bodyIn s m
   unfolding judgedBy alerted
-  alert-body t = rw (t .passed, t .loud, t .event, t .origin, t .places, t .ends)
+  alert-body t = rw (t .passing, t .naming, t .loud, t .event, t .origin, t .places, t .ends)
 
 -- ---- the body
 
@@ -114,5 +120,5 @@ body-ok s h q =
 -- whatever is answered, the message stands beside it
 pub message-kept : (s : List ℕ) (m : Message) → judgedBy s m .message ≡ m
 message-kept s m =
-    judged-holds s m (λ (j : Judged). j .message ≡ m) (λ e. refl) (λ e. refl)
+    judged-holds s m (λ (j : Judged). j .message ≡ m) (λ e. refl) (λ e. refl) (λ e. refl)
     (λ e. alerted-holds s m (λ (j : Judged). j .message ≡ m) (λ n h. refl) refl)

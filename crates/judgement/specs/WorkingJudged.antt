@@ -14,7 +14,7 @@ use Rattle.parts.specs.declared.Body.{Body}
 use Rattle.reads.specs.declared.Locations.{Locations}
 use Rattle.message.specs.WorkingMessage.{messageSays}
 use Rattle.message.specs.declared.Message.{Message}
-use Rattle.judgement.specs.WorkingRules.{infoIn, expiresIn, eventIs, originOf, located, secondsTo, quietOf}
+use Rattle.judgement.specs.WorkingRules.{lacksReferences, infoIn, expiresIn, eventIs, originOf, located, secondsTo, quietOf}
 use Rattle.judgement.specs.declared.Judged.{Judged}
 
 -- a message that gives no header: refused, or a quiet Cancel, which answers 0
@@ -60,9 +60,13 @@ alerted s m =
     (without m 12 false))
     (without m 11 false)
 
--- a quiet Cancel answers 0, and numbers 11 to 14 aren't asked
+-- 4 to 9; 10 references missing, malformed or over 16; a quiet Cancel answers 0, and numbers 11 to 14 aren't asked
 unfoldable pub judgedBy : List ℕ → Message → Judged
-judgedBy s m = pick (eqb (m .number) 0) (pick (quietOf m) (without m 0 true) (alerted s m)) (without m (m .number) false)
+judgedBy s m =
+    pick (eqb (m .number) 0)
+    (pick (lacksReferences s m) (without m 10 false)
+    (pick (quietOf m) (without m 0 true) (alerted s m)))
+    (without m (m .number) false)
 
 abbrev pub judgedOf : List ℕ → Judged
 judgedOf s = judgedBy s (messageSays s)

@@ -1,4 +1,4 @@
--- What the selected info says for a header, and quiet Cancels. A leaf's value is valueAt s of its place.
+-- What a header asks: references, what the selected info says, and quiet Cancels. A leaf's value is valueAt s of its place.
 use Prim.Native.Nat.{ℕ, _-_}
 use mathlib.Core.Bool.{Bool, true, false, _&&_, not}
 use mathlib.Core.List.{List, [], _∷_}
@@ -12,14 +12,32 @@ use Rattle.parts.specs.Parts.{eventOk}
 use Rattle.parts.specs.declared.Originator.the-variants.{Civ}
 use Rattle.parts.specs.declared.Origin.{Origin}
 use Rattle.parts.specs.declared.Origin.the-variants.{Known}
-use Rattle.reads.specs.WorkingLeaves.{expiresLeaf}
+use Rattle.reads.specs.WorkingLeaves.{onlyOf, referencesLeaf, expiresLeaf}
 use Rattle.reads.specs.WorkingSteps.{isNothing}
 use Rattle.reads.specs.declared.Leaf.{Leaf}
 use Rattle.reads.specs.declared.Locations.{Locations}
 use Rattle.reads.specs.declared.Info.{Info}
-use Rattle.message.specs.WorkingJudged.{isCancel}
+use Rattle.fields.specs.WorkingFields.{referencesOk}
+use Rattle.fields.specs.declared.MsgType.{MsgType}
 use Rattle.message.specs.declared.Message.{Message}
 use Rattle.judgement.specs.declared.Event.{Event}
+
+-- references are judged only in Update and Cancel
+abbrev pub asksReferences : MsgType → Bool
+asksReferences MsgType.Unknown = false
+asksReferences MsgType.Alert = false
+asksReferences MsgType.Update = true
+asksReferences MsgType.Cancel = true
+asksReferences MsgType.Ack = false
+asksReferences MsgType.Error = false
+
+-- a repeat of references, or a child element there, is answered 10
+unfoldable pub referenced : List ℕ → Leaf → Bool
+referenced s l = onlyOf l && referencesOk (valueAt s (l .at))
+
+-- references missing, malformed or over 16
+unfoldable pub lacksReferences : List ℕ → Message → Bool
+lacksReferences s m = asksReferences (m .«msg_type») && not (referenced s (referencesLeaf (m .alert)))
 
 -- the info that is selected
 abbrev pub infoIn : Message → Info
@@ -62,6 +80,15 @@ complete m =
     ∷ not (unplaced (infoIn m .locations))
     ∷ not (eqb (expiresIn m .count) 0)
     ∷ []
+
+-- a Cancel may be quiet
+abbrev pub isCancel : MsgType → Bool
+isCancel MsgType.Unknown = false
+isCancel MsgType.Alert = false
+isCancel MsgType.Update = false
+isCancel MsgType.Cancel = true
+isCancel MsgType.Ack = false
+isCancel MsgType.Error = false
 
 -- a Cancel with no info, no SAME eventCode, no SAME geocode or no expires is quiet
 unfoldable pub quietOf : Message → Bool

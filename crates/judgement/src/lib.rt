@@ -1,4 +1,4 @@
-// A message judged up to number 14: quiet Cancels, and the parts of the header that the message gives.
+// What a header asks of a message, numbers 10 to 14: references, quiet Cancels, and the parts of the header that the message gives.
 use fields::MsgType;
 use message::Message;
 use parts::Body;
@@ -10,8 +10,7 @@ ghost use mathlib.Core.Path.{_≡_};
 ghost use Prim.Native.Nat.{_<_, _-_};
 ghost use Rattle.octets.specs.Bytes.{every, holds};
 ghost use Rattle.clock.specs.Time.{span};
-ghost use Rattle.message.specs.WorkingJudged.{isCancel};
-ghost use Rattle.judgement.specs.WorkingRules.{noEvent, eventOf, originOf, located, secondsTo, unplaced, complete, quietOf};
+ghost use Rattle.judgement.specs.WorkingRules.{asksReferences, referenced, lacksReferences, noEvent, eventOf, originOf, located, secondsTo, unplaced, complete, isCancel, quietOf};
 ghost use Rattle.judgement.specs.WorkingJudged.{without, bodyWith, alerted, judgedOf};
 
 // The event of a header, or that there is none.
@@ -28,6 +27,43 @@ pub struct Judged {
     pub quiet: bool,
     pub body: Body,
     pub message: Message,
+}
+
+// ---- references
+
+// Whether a message of this msgType is asked for references.
+pub fn asks_references(t: MsgType) -> bool
+    ensures { λ r. ⌜ r ≡ asksReferences t ⌝ }
+{
+    match t {
+        MsgType::Unknown => false,
+        MsgType::Alert => false,
+        MsgType::Update => true,
+        MsgType::Cancel => true,
+        MsgType::Ack => false,
+        MsgType::Error => false,
+    }
+}
+
+fn has_references(s: &[u8], l: Leaf) -> bool
+    ensures { λ r. ⌜ r ≡ referenced (now (s .entry)) l ⌝ }
+{
+    if !reads::is_only(l) {
+        return false;
+    }
+    fields::references_at(s, l.at)
+}
+
+fn lacks_references(s: &[u8], m: Message) -> bool
+    ensures { λ r. ⌜ r ≡ lacksReferences (now (s .entry)) m ⌝ }
+{
+    let t = m.msg_type;
+    let a = m.alert;
+    let references = a.leaf[reads::REFERENCES];
+    if !asks_references(t) {
+        return false;
+    }
+    !has_references(s, references)
 }
 
 // ---- what an info says for a header
@@ -228,6 +264,9 @@ pub fn judge(s: &[u8]) -> Judged
     let m = message::read(s);
     if m.number != 0 {
         return no_header(m, m.number, false);
+    }
+    if lacks_references(s, m) {
+        return no_header(m, 10, false);
     }
     if is_quiet(m) {
         return no_header(m, 0, true);

@@ -2,7 +2,7 @@
 --     locations-fit                at most 31 locations of six digits, and zeros behind them
 --     audio-number, audio-fits     a number to 3, and where it is not 0 a uri of 1 to 1,024 bytes
 --     sent-in                      an instant of 2000 to 2099, and 0 after a refusal
---     number-small, field-small    a number to 10 and a field to 7
+--     number-small, field-small    a number to 9 and a field to 7
 --     field-zero                   a field only beside number 7
 use Prim.Native.Nat.{ℕ, suc, zero, _+_, _≤_, _<_}
 use mathlib.Core.Path.{_≡_, refl, _∙_}
@@ -30,7 +30,7 @@ use Rattle.markup.specs.Tree.{Forest, One, one, none}
 use Rattle.markup.specs.Document.{docAt}
 use Rattle.values.specs.Value.{valueAt}
 use Rattle.values.specs.WorkingSteps.{sixDigits}
-use Rattle.reads.specs.WorkingLeaves.{soundOf, pairOk, noInfo, sentLeaf, referencesLeaf}
+use Rattle.reads.specs.WorkingLeaves.{soundOf, onlyOf, pairOk, noInfo, sentLeaf}
 use Rattle.reads.specs.WorkingSteps.{says, withLocation, locationOf, locationStep, audioOf, isAudio, audioStep}
 use Rattle.reads.specs.declared.Leaf.{Leaf}
 use Rattle.reads.specs.declared.Locations.{Locations}
@@ -41,7 +41,7 @@ use Rattle.gather.specs.Read.{Element, named}
 use Rattle.gather.specs.WorkingRead.{leafIn, withGeocode, withArea, withResource, infoOf, fromEnglish, selected, alertOf}
 use Rattle.fields.specs.declared.MsgType.{MsgType}
 use Rattle.message.specs.Root.{prefixOf, rootOk}
-use Rattle.message.specs.WorkingJudged.{onlyOf, timed, statusOf, msgTypeOf, scopeOf, isAckOrError, asksReferences, referenced, faultsWith, fieldOf, numberWith}
+use Rattle.message.specs.WorkingJudged.{timed, statusOf, msgTypeOf, scopeOf, isAckOrError, faultsWith, fieldOf, numberWith}
 use Rattle.message.specs.WorkingMessage.{refusedAs, judged, judgedRoot, ofRoot, messageSays}
 use Rattle.message.specs.declared.Message.{Message}
 
@@ -213,33 +213,31 @@ lowest-most (false ∷ bs) = go (lowest bs) (lowest-most bs)
     go (suc n) h = omega arith
 
 record NumberFits (number field : ℕ) : Type 0 where
-  pub small : number ≤ 10
+  pub small : number ≤ 9
   pub seven : (number ≡ 7 → ⊥) → field ≡ 0
 
-number-fits : (s : List ℕ) (field status scope : ℕ) (t : MsgType) (l : Leaf) → NumberFits (numberWith s field status scope t l) field
+number-fits : (field status scope : ℕ) (t : MsgType) → NumberFits (numberWith field status scope t) field
 unfolding numberWith
-number-fits s field status scope t l =
+number-fits field status scope t =
     either-way Fit (eqb field 0) _ _
     (λ q. either-way Fit (eqb status 1 && eqb scope 1) _ _
-    (λ x. either-way Fit (isAckOrError t) _ _
-    (λ y. beside 9 q (omega arith))
-    (λ y. either-way Fit (asksReferences t && not (referenced s l)) _ _ (λ z. beside 10 q (omega arith)) (λ z. beside 0 q (omega arith))))
+    (λ x. either-way Fit (isAckOrError t) _ _ (λ y. beside 9 q (omega arith)) (λ y. beside 0 q (omega arith)))
     (λ x. beside 8 q (omega arith)))
     (λ q. record { small = omega arith; seven = λ n. absurd (n refl) })
   where
     Fit : ℕ → Type 0
     Fit n = NumberFits n field
 
-    beside : (n : ℕ) → eqb field 0 ≡ true → n ≤ 10 → Fit n
+    beside : (n : ℕ) → eqb field 0 ≡ true → n ≤ 9 → Fit n
     beside n q h = record { small = h; seven = λ x. eqb-true field 0 q }
 
 number-holds : (s : List ℕ) → NumberFits (messageSays s .number) (messageSays s .field)
 unfolding judged
 number-holds s =
     message-holds s (λ (m : Message). NumberFits (m .number) (m .field)) (λ n k l. record { small = omega arith; seven = λ x. refl })
-    (λ p t. let a = alertOf s p t in number-fits s (fieldOf s a) (statusOf s a) (scopeOf s a) (msgTypeOf s a) (referencesLeaf a))
+    (λ p t. let a = alertOf s p t in number-fits (fieldOf s a) (statusOf s a) (scopeOf s a) (msgTypeOf s a))
 
-pub number-small : (s : List ℕ) → messageSays s .number ≤ 10
+pub number-small : (s : List ℕ) → messageSays s .number ≤ 9
 number-small s = number-holds s .small
 
 field-most : (s : List ℕ) (a : Alert) → fieldOf s a ≤ 7

@@ -1,4 +1,4 @@
--- What is read in an alert, judged: fields at fault, and numbers 7 to 10.
+-- What is read in an alert, judged: fields at fault, and numbers 7 to 9.
 use Prim.Native.Nat.{ℕ}
 use Prim.Native.String.{String}
 use mathlib.Core.Bool.{Bool, true, false, _&&_, _||_, not}
@@ -8,19 +8,14 @@ use Rattle.octets.specs.Bytes.{pick, every, holds}
 use Rattle.clock.specs.Time.{timeOf, isTime}
 use Rattle.clock.specs.declared.Time.{Time}
 use Rattle.values.specs.Value.{valueAt}
-use Rattle.reads.specs.WorkingLeaves.{soundOf, identifierLeaf, senderLeaf, sentLeaf, statusLeaf, msgTypeLeaf, scopeLeaf, referencesLeaf, expiresLeaf, senderNameLeaf, descriptionLeaf, instructionLeaf}
+use Rattle.reads.specs.WorkingLeaves.{soundOf, onlyOf, identifierLeaf, senderLeaf, sentLeaf, statusLeaf, msgTypeLeaf, scopeLeaf, expiresLeaf, senderNameLeaf, descriptionLeaf, instructionLeaf}
 use Rattle.reads.specs.declared.Leaf.{Leaf}
 use Rattle.reads.specs.declared.Info.{Info}
 use Rattle.reads.specs.declared.Alert.{Alert}
 use Rattle.fields.specs.Fields.{identityOk}
 use Rattle.fields.specs.WorkingFields.{indexIn, statuses, scopes, msgTypeIn}
-use Rattle.fields.specs.WorkingFields.{referencesOk}
 use Rattle.fields.specs.declared.MsgType.{MsgType}
 use Rattle.faults.specs.WorkingField.{lowest}
-
--- exactly once, and holding no element
-unfoldable pub onlyOf : Leaf → Bool
-onlyOf l = every holds (eqb (l .count) 1 ∷ not (l .holds) ∷ [])
 
 -- identifier or sender; what is empty is none
 unfoldable pub identified : List ℕ → Leaf → Bool
@@ -65,24 +60,6 @@ isAckOrError MsgType.Cancel = false
 isAckOrError MsgType.Ack = true
 isAckOrError MsgType.Error = true
 
--- references are judged only in Update and Cancel
-abbrev pub asksReferences : MsgType → Bool
-asksReferences MsgType.Unknown = false
-asksReferences MsgType.Alert = false
-asksReferences MsgType.Update = true
-asksReferences MsgType.Cancel = true
-asksReferences MsgType.Ack = false
-asksReferences MsgType.Error = false
-
--- a Cancel may be quiet
-abbrev pub isCancel : MsgType → Bool
-isCancel MsgType.Unknown = false
-isCancel MsgType.Alert = false
-isCancel MsgType.Update = false
-isCancel MsgType.Cancel = true
-isCancel MsgType.Ack = false
-isCancel MsgType.Error = false
-
 -- the leaves of the info that is selected, apart from language: expires, senderName, description, instruction; its eventCodes, parameters, geocodes, resources
 abbrev pub infoTests : Info → List Bool
 infoTests i =
@@ -115,19 +92,9 @@ faultsWith s a sent status msgType scope =
 abbrev pub fieldOf : List ℕ → Alert → ℕ
 fieldOf s a = lowest (faultsWith s a (timed s (sentLeaf a)) (statusOf s a) (msgTypeOf s a) (scopeOf s a))
 
--- a repeat of references, or a child element there, is answered 10
-unfoldable pub referenced : List ℕ → Leaf → Bool
-referenced s l = onlyOf l && referencesOk (valueAt s (l .at))
-
--- 7 a read leaf at fault; 8 status not Actual, or scope not Public; 9 msgType Ack or Error; 10 references missing, malformed or over 16
-unfoldable pub numberWith : List ℕ → ℕ → ℕ → ℕ → MsgType → Leaf → ℕ
-numberWith s field status scope msgType references =
-    pick (eqb field 0)
-    (pick (eqb status 1 && eqb scope 1)
-    (pick (isAckOrError msgType) 9
-    (pick (asksReferences msgType && not (referenced s references)) 10 0))
-    8)
-    7
+-- 7 a read leaf at fault; 8 status not Actual, or scope not Public; 9 msgType Ack or Error
+unfoldable pub numberWith : ℕ → ℕ → ℕ → MsgType → ℕ
+numberWith field status scope msgType = pick (eqb field 0) (pick (eqb status 1 && eqb scope 1) (pick (isAckOrError msgType) 9 0) 8) 7
 
 abbrev pub messageNumber : List ℕ → Alert → ℕ
-messageNumber s a = numberWith s (fieldOf s a) (statusOf s a) (scopeOf s a) (msgTypeOf s a) (referencesLeaf a)
+messageNumber s a = numberWith (fieldOf s a) (statusOf s a) (scopeOf s a) (msgTypeOf s a)

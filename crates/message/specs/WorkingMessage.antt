@@ -1,4 +1,4 @@
--- A message as document 01 reads and judges it, up to number 10.
+-- A message as document 01 reads and judges it, up to number 9.
 use Prim.Native.Nat.{ℕ, _+_}
 use mathlib.Core.Bool.{Bool, true, false}
 use mathlib.Core.List.{List}

@@ -1,4 +1,4 @@
-// A message read once, forward, and judged up to number 10.
+// A message read once, forward, and judged up to number 9.
 use clock::Time;
 use fields::MsgType;
 use pieces::End;
@@ -12,13 +12,13 @@ ghost use mathlib.Core.List.{[], _∷_, _++_};
 ghost use mathlib.Core.Bool.{not};
 ghost use Prim.Native.Nat.{_+_, _≤_};
 ghost use lib.ListN.{length};
-ghost use Rattle.octets.specs.Bytes.{pick, every, holds};
+ghost use Rattle.octets.specs.Bytes.{every, holds};
 ghost use Rattle.fields.specs.WorkingFields.{statuses, scopes};
 ghost use Rattle.faults.specs.WorkingField.{lowest};
 ghost use Rattle.markup.specs.Tree.{elemAt};
 ghost use Rattle.markup.specs.Document.{rooted, docAt};
 ghost use Rattle.message.specs.Root.{colonAt, rootWith};
-ghost use Rattle.message.specs.WorkingJudged.{onlyOf, identified, timed, placeAmong, typed, isUnknown, infoOk, faultsWith, referenced, numberWith};
+ghost use Rattle.message.specs.WorkingJudged.{identified, timed, placeAmong, typed, isUnknown, infoOk, faultsWith, numberWith};
 ghost use Rattle.message.specs.WorkingMessage.{refusedAs, judged, judgedRoot, rootContext, ofRoot, messageSays};
 
 // What a message says: its number and field; its msgType; the instant of sent; and what is read in its alert. After 4, 5 and 6 nothing is read.
@@ -47,20 +47,10 @@ fn refused(n: usize, number: u32) -> Message
 
 // ---- leaves
 
-// Exactly once, and holding no element.
-fn is_only(l: Leaf) -> bool
-    ensures { λ r. ⌜ r ≡ onlyOf l ⌝ }
-{
-    if l.count != 1 {
-        return false;
-    }
-    !l.holds
-}
-
 fn is_identified(s: &[u8], l: Leaf) -> bool
     ensures { λ r. ⌜ r ≡ identified (now (s .entry)) l ⌝ }
 {
-    if !is_only(l) {
+    if !reads::is_only(l) {
         return false;
     }
     fields::identity_at(s, l.at)
@@ -69,7 +59,7 @@ fn is_identified(s: &[u8], l: Leaf) -> bool
 fn time_of(s: &[u8], l: Leaf) -> Time
     ensures { λ r. ⌜ r ≡ timed (now (s .entry)) l ⌝ }
 {
-    if !is_only(l) {
+    if !reads::is_only(l) {
         return Time::Bad;
     }
     fields::time_at(s, l.at)
@@ -78,7 +68,7 @@ fn time_of(s: &[u8], l: Leaf) -> Time
 fn status_of(s: &[u8], l: Leaf) -> u32
     ensures { λ r. ⌜ r ≡ placeAmong (now (s .entry)) statuses l ⌝ }
 {
-    if !is_only(l) {
+    if !reads::is_only(l) {
         return 0;
     }
     fields::status_at(s, l.at)
@@ -87,7 +77,7 @@ fn status_of(s: &[u8], l: Leaf) -> u32
 fn msg_type_of(s: &[u8], l: Leaf) -> MsgType
     ensures { λ r. ⌜ r ≡ typed (now (s .entry)) l ⌝ }
 {
-    if !is_only(l) {
+    if !reads::is_only(l) {
         return MsgType::Unknown;
     }
     fields::msg_type_at(s, l.at)
@@ -96,19 +86,10 @@ fn msg_type_of(s: &[u8], l: Leaf) -> MsgType
 fn scope_of(s: &[u8], l: Leaf) -> u32
     ensures { λ r. ⌜ r ≡ placeAmong (now (s .entry)) scopes l ⌝ }
 {
-    if !is_only(l) {
+    if !reads::is_only(l) {
         return 0;
     }
     fields::scope_at(s, l.at)
-}
-
-fn has_references(s: &[u8], l: Leaf) -> bool
-    ensures { λ r. ⌜ r ≡ referenced (now (s .entry)) l ⌝ }
-{
-    if !is_only(l) {
-        return false;
-    }
-    fields::references_at(s, l.at)
 }
 
 // No eventCode, parameter, geocode or resource at fault.
@@ -189,15 +170,8 @@ fn field_with(s: &[u8], a: Alert, sent: Time, status: u32, msg_type: MsgType, sc
     )
 }
 
-fn number_with(
-    s: &[u8],
-    field: u32,
-    status: u32,
-    scope: u32,
-    msg_type: MsgType,
-    references: Leaf,
-) -> u32
-    ensures { λ r. ⌜ r ≡ numberWith (now (s .entry)) field status scope «msg_type» references ⌝ }
+fn number_with(field: u32, status: u32, scope: u32, msg_type: MsgType) -> u32
+    ensures { λ r. ⌜ r ≡ numberWith field status scope «msg_type» ⌝ }
 {
     if field != 0 {
         return 7;
@@ -211,20 +185,11 @@ fn number_with(
     match msg_type {
         MsgType::Unknown => 0,
         MsgType::Alert => 0,
-        MsgType::Update => number_of_references(s, references),
-        MsgType::Cancel => number_of_references(s, references),
+        MsgType::Update => 0,
+        MsgType::Cancel => 0,
         MsgType::Ack => 9,
         MsgType::Error => 9,
     }
-}
-
-fn number_of_references(s: &[u8], references: Leaf) -> u32
-    ensures { λ r. ⌜ r ≡ pick (referenced (now (s .entry)) references) 0 10 ⌝ }
-{
-    if has_references(s, references) {
-        return 0;
-    }
-    10
 }
 
 fn judge(s: &[u8], a: Alert) -> Message
@@ -234,14 +199,13 @@ fn judge(s: &[u8], a: Alert) -> Message
     let status_leaf = a.leaf[reads::STATUS];
     let msg_type_leaf = a.leaf[reads::MSG_TYPE];
     let scope_leaf = a.leaf[reads::SCOPE];
-    let references = a.leaf[reads::REFERENCES];
     let sent = time_of(s, sent_leaf);
     let status = status_of(s, status_leaf);
     let msg_type = msg_type_of(s, msg_type_leaf);
     let scope = scope_of(s, scope_leaf);
     let field = field_with(s, a, sent, status, msg_type, scope);
     Message {
-        number: number_with(s, field, status, scope, msg_type, references),
+        number: number_with(field, status, scope, msg_type),
         field: field,
         msg_type: msg_type,
         sent: clock::seconds(sent),

@@ -27,7 +27,7 @@ use Rattle.fields.proofs.Identities.{identity-short}
 use Rattle.fields.proofs.Buffers.{put-long, taken-back}
 use Rattle.fields.proofs.Groups.{groupTests, group-long, no-first, no-second, Parted, parted}
 use Rattle.fields.proofs.Words.{value-words, len-is, next-is, more-is}
-use Rattle.message.specs.WorkingJudged.{asksReferences}
+use Rattle.judgement.specs.WorkingRules.{asksReferences}
 use Rattle.judgement.specs.declared.Judged.{Judged}
 use Rattle.records.specs.Record.{pad, be4, keyOf, notice, withdrawal}
 use Rattle.records.proofs.ZeroFill.{pad-long, pad-whole}

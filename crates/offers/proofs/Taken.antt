@@ -32,15 +32,16 @@ use Rattle.fields.proofs.Groups.{groupTests}
 use Rattle.faults.specs.WorkingField.{oneOn, lowest}
 use Rattle.markup.specs.Tree.{one}
 use Rattle.reads.specs.declared.Alert.{Alert}
-use Rattle.reads.specs.declared.Leaf.{Leaf}
 use Rattle.gather.specs.WorkingRead.{alertOf}
-use Rattle.reads.specs.WorkingLeaves.{identifierLeaf, senderLeaf, sentLeaf, referencesLeaf}
-use Rattle.message.specs.WorkingJudged.{onlyOf, identified, timed, statusOf, msgTypeOf, scopeOf, referenced, isAckOrError, asksReferences, faultsWith, fieldOf, numberWith, messageNumber}
+use Rattle.reads.specs.WorkingLeaves.{onlyOf, identifierLeaf, senderLeaf, sentLeaf, referencesLeaf}
+use Rattle.message.specs.WorkingJudged.{identified, timed, statusOf, msgTypeOf, scopeOf, isAckOrError, faultsWith, fieldOf, numberWith, messageNumber}
 use Rattle.message.specs.WorkingMessage.{judged, messageSays}
 use Rattle.message.specs.declared.Message.{Message}
 use Rattle.leaves.proofs.Fits.{message-holds, sent-in}
-use Rattle.judgement.specs.WorkingJudged.{bodyWith, judgedBy, judgedOf}
+use Rattle.judgement.specs.WorkingRules.{asksReferences, referenced, lacksReferences}
+use Rattle.judgement.specs.WorkingJudged.{bodyWith, judgedOf}
 use Rattle.judgement.specs.declared.Judged.{Judged}
+use Rattle.judgement.proofs.Answers.{passed}
 use Rattle.judgement.proofs.Bodies.{alerting, alert-body, body-ok, message-kept}
 use Rattle.records.specs.Record.{recordOk, notice, withdrawal}
 use Rattle.records.proofs.ZeroFill.{pad-long}
@@ -69,35 +70,32 @@ no-faults (false ∷ bs) (suc i) h = no-faults bs i (go (lowest bs) h)
     go zero e = refl
     go (suc n) e = absurd (omega arith)
 
-number-zero : (s : List ℕ) (field status scope : ℕ) (t : MsgType) (l : Leaf) → numberWith s field status scope t l ≡ 0 → (field ≡ 0) × ((asksReferences t && not (referenced s l)) ≡ false)
+number-zero : (field status scope : ℕ) (t : MsgType) → numberWith field status scope t ≡ 0 → field ≡ 0
 unfolding numberWith
-number-zero s field status scope t l = go (eqb field 0) refl (eqb status 1 && eqb scope 1) (isAckOrError t) (asksReferences t && not (referenced s l)) refl
+number-zero field status scope t = go (eqb field 0) refl
   where
-    go : (a : Bool) → eqb field 0 ≡ a → (b d e : Bool) → (asksReferences t && not (referenced s l)) ≡ e → pick {A = ℕ} a (pick b (pick d 9 (pick e 10 0)) 8) 7 ≡ 0 → (field ≡ 0) × ((asksReferences t && not (referenced s l)) ≡ false)
-    go false a b d e f h = absurd (omega arith)
-    go true a false d e f h = absurd (omega arith)
-    go true a true true e f h = absurd (omega arith)
-    go true a true false true f h = absurd (omega arith)
-    go true a true false false f h = (eqb-true field 0 a, f)
+    go : (a : Bool) → eqb field 0 ≡ a → pick {A = ℕ} a (pick (eqb status 1 && eqb scope 1) (pick (isAckOrError t) 9 0) 8) 7 ≡ 0 → field ≡ 0
+    go false a h = absurd (omega arith)
+    go true a h = eqb-true field 0 a
 
 pub record Sound (s : List ℕ) (m : Message) : Type 0 where
   pub identifier : identityOk (ownIdentifier s m) ≡ true
   pub sender : identityOk (ownSender s m) ≡ true
   pub references : asksReferences (m .«msg_type») ≡ true → referencesOk (ownReferences s m) ≡ true
 
-judged-sound : (s : List ℕ) (a : Alert) → messageNumber s a ≡ 0 → Sound s (judged s a)
-unfolding judged identified referenced
-judged-sound s a h =
-    let z = number-zero s (fieldOf s a) (statusOf s a) (scopeOf s a) (msgTypeOf s a) (referencesLeaf a) h in
+abbrev Identified : List ℕ → Message → Type 0
+Identified s m = (identityOk (ownIdentifier s m) ≡ true) × (identityOk (ownSender s m) ≡ true)
+
+judged-identified : (s : List ℕ) (a : Alert) → messageNumber s a ≡ 0 → Identified s (judged s a)
+unfolding judged identified
+judged-identified s a h =
+    let z = number-zero (fieldOf s a) (statusOf s a) (scopeOf s a) (msgTypeOf s a) h in
     let bs = faultsWith s a (timed s (sentLeaf a)) (statusOf s a) (msgTypeOf s a) (scopeOf s a) in
-    record {
-      identifier = and-right (onlyOf (identifierLeaf a)) _ (not-false _ (no-faults bs 0 (z .0)));
-      sender = and-right (onlyOf (senderLeaf a)) _ (not-false _ (no-faults bs 1 (z .0)));
-      references = λ e. and-right (onlyOf (referencesLeaf a)) _ (not-false _ (asked (asksReferences (msgTypeOf s a)) _ e (z .1)));
-    }
-  where
-    asked : (x y : Bool) → x ≡ true → (x && y) ≡ false → y ≡ false
-    asked x y e h = rw e at h
+    (and-right (onlyOf (identifierLeaf a)) _ (not-false _ (no-faults bs 0 z)), and-right (onlyOf (senderLeaf a)) _ (not-false _ (no-faults bs 1 z)))
+
+named-sound : (s : List ℕ) (m : Message) → lacksReferences s m ≡ false → asksReferences (m .«msg_type») ≡ true → referencesOk (ownReferences s m) ≡ true
+unfolding lacksReferences referenced
+named-sound s m h e = let l = referencesLeaf (m .alert) in and-right (onlyOf l) _ (not-false _ (rw e at h))
 
 -- ---- a message that is judged and answers 0
 
@@ -105,16 +103,11 @@ module _ (s : List ℕ) (zero : judgedOf s .number ≡ 0) where
   pub message-is : judgedOf s .message ≡ messageSays s
   message-is = message-kept s (messageSays s)
 
-  message-zero : messageSays s .number ≡ 0
-  unfolding judgedBy
-  message-zero = go (eqb (messageSays s .number) 0) refl
-    where
-      go : (b : Bool) → eqb (messageSays s .number) 0 ≡ b → messageSays s .number ≡ 0
-      go true e = eqb-true (messageSays s .number) 0 e
-      go false e = rw e at zero
-
   pub sound : Sound s (judgedOf s .message)
-  sound = rw message-is (answering s (Sound s) (judged-sound s) message-zero)
+  sound =
+      let p = passed s (messageSays s) zero in
+      let i = answering s (Identified s) (judged-identified s) (p .0) in
+      rw message-is (record { identifier = i .0; sender = i .1; references = named-sound s (messageSays s) (p .1) })
 
   pub sent-low : judgedOf s .message .sent < span
   sent-low = rw message-is (sent-in s)

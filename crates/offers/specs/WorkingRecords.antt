@@ -8,8 +8,8 @@ use Rattle.header.specs.Body.{bodyBytes}
 use Rattle.values.specs.Value.{valueAt}
 use Rattle.fields.specs.References.{senderOf, identifierOf, sentOf, words}
 use Rattle.reads.specs.WorkingLeaves.{identifierLeaf, senderLeaf, referencesLeaf}
-use Rattle.message.specs.WorkingJudged.{asksReferences}
 use Rattle.message.specs.declared.Message.{Message}
+use Rattle.judgement.specs.WorkingRules.{asksReferences}
 use Rattle.judgement.specs.WorkingJudged.{judgedOf}
 use Rattle.judgement.specs.declared.Judged.{Judged}
 use Rattle.records.specs.Record.{pad, keyOf}

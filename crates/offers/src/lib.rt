@@ -1,5 +1,4 @@
 // A message offered to a board: the records that it adds, and the call.
-use fields::MsgType;
 use fields::Word;
 use judgement::Judged;
 use records::Record;
@@ -13,7 +12,6 @@ ghost use Rattle.values.specs.Value.{valueAt};
 ghost use Rattle.fields.specs.WorkingFields.{groupOk, referencesOk};
 ghost use Rattle.fields.specs.References.{words};
 ghost use Rattle.fields.specs.WorkingWords.{wordIn, wordAt};
-ghost use Rattle.message.specs.WorkingJudged.{asksReferences};
 ghost use Rattle.judgement.specs.WorkingJudged.{judgedOf};
 ghost use Rattle.records.specs.Record.{notice, withdrawal};
 ghost use Rattle.ledger.specs.WorkingBoard.{records};
@@ -114,20 +112,6 @@ fn put_notice(s: &[u8], j: Judged, batch: &mut [u8]) -> usize
 
 // ---- the records of a message
 
-// Whether a message of this msgType has references.
-fn has_references(t: MsgType) -> bool
-    ensures { λ r. ⌜ r ≡ asksReferences t ⌝ }
-{
-    match t {
-        MsgType::Unknown => false,
-        MsgType::Alert => false,
-        MsgType::Update => true,
-        MsgType::Cancel => true,
-        MsgType::Ack => false,
-        MsgType::Error => false,
-    }
-}
-
 // Puts the records of a message that answers 0, and says how many there are.
 fn put_records(s: &[u8], j: Judged, batch: &mut [u8]) -> usize
     requires { ⌜ (j ≡ judgedOf (now s)) × (j .number ≡ 0) × (17 * 384 ≤ length (now batch)) ⌝ }
@@ -137,7 +121,7 @@ fn put_records(s: &[u8], j: Judged, batch: &mut [u8]) -> usize
     let n = put_notice(s, j, batch);
     let m = j.message;
     let t = m.msg_type;
-    if !has_references(t) {
+    if !judgement::asks_references(t) {
         return n;
     }
     let a = m.alert;

@@ -27,6 +27,10 @@ found l at = record { count = pick (eqb (l .count) 0) 1 2; at = pick (eqb (l .co
 unfoldable pub soundOf : Leaf → Bool
 soundOf l = every holds (leb (l .count) 1 ∷ not (l .holds) ∷ [])
 
+-- exactly once, and holding no element
+unfoldable pub onlyOf : Leaf → Bool
+onlyOf l = every holds (eqb (l .count) 1 ∷ not (l .holds) ∷ [])
+
 -- so is a valueName or value missing in a read eventCode, parameter or geocode
 unfoldable pub pairOk : Leaf → Leaf → Bool
 pairOk name value = every holds (not (eqb (name .count) 0) ∷ not (eqb (value .count) 0) ∷ soundOf name ∷ soundOf value ∷ [])

@@ -3,7 +3,7 @@ ghost use mathlib.Core.Path.{_≡_};
 ghost use mathlib.Core.Bool.{_||_};
 ghost use Prim.Native.Nat.{_≤_};
 ghost use lib.ListN.{length};
-ghost use Rattle.reads.specs.WorkingLeaves.{noLeaf, marked, found, soundOf, pairOk, noInfo, nothingRead};
+ghost use Rattle.reads.specs.WorkingLeaves.{noLeaf, marked, found, soundOf, onlyOf, pairOk, noInfo, nothingRead};
 ghost use Rattle.reads.specs.Names.{localAt, alertContext, infoContext, laterContext, pairContext, resourceContext, areaContext, contextOf};
 ghost use Rattle.reads.specs.WorkingSteps.{eventStep, parameterStep, audioOf, audioStep, english, isNothing};
 
@@ -211,6 +211,16 @@ pub fn is_sound(l: Leaf) -> bool
     ensures { λ r. ⌜ r ≡ soundOf l ⌝ }
 {
     if 1 < l.count {
+        return false;
+    }
+    !l.holds
+}
+
+// Exactly once, and holding no element.
+pub fn is_only(l: Leaf) -> bool
+    ensures { λ r. ⌜ r ≡ onlyOf l ⌝ }
+{
+    if l.count != 1 {
         return false;
     }
     !l.holds

@@ -15,11 +15,10 @@ use Rattle.octets.specs.Bytes.{pick, every, holds}
 use Rattle.markup.specs.Tree.{Forest}
 use Rattle.values.specs.Value.{valueAt}
 use Rattle.values.proofs.Steps.{value-past}
-use Rattle.reads.specs.WorkingLeaves.{noLeaf, found, soundOf, pairOk}
+use Rattle.reads.specs.WorkingLeaves.{noLeaf, found, soundOf, onlyOf, pairOk}
 use Rattle.reads.specs.declared.Leaf.{Leaf}
 use Rattle.gather.specs.Read.{Element, named, bare}
 use Rattle.gather.specs.WorkingRead.{placeIn, markedIf, withLeaf, leafIn}
-use Rattle.message.specs.WorkingJudged.{onlyOf}
 use Rattle.leaves.specs.Leaf.{leafValue}
 use Rattle.leaves.proofs.Reals.{Real, AllReal}
 use Rattle.leaves.proofs.Places.{named-real}

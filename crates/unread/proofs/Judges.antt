@@ -9,12 +9,12 @@ use Rattle.parts.specs.Originator.{isKnown}
 use Rattle.reads.specs.declared.Leaf.{Leaf}
 use Rattle.message.specs.WorkingMessage.{messageSays}
 use Rattle.message.specs.declared.Message.{Message}
-use Rattle.judgement.specs.WorkingRules.{infoIn, expiresIn, eventIs, originOf, located, secondsTo, quietOf}
+use Rattle.judgement.specs.WorkingRules.{referenced, lacksReferences, infoIn, expiresIn, eventIs, originOf, located, secondsTo, quietOf}
 use Rattle.judgement.specs.WorkingJudged.{without, bodyWith, lasting, bodyIn, alerted, judgedBy, judgedOf}
 use Rattle.judgement.specs.declared.Judged.{Judged}
 use Rattle.unread.specs.Kept.{OnlyUnreadDiffers}
 use Rattle.unread.proofs.Alike.{both-ways, LeafAs, InfoAs}
-use Rattle.unread.proofs.Messages.{MessageAs, message-as}
+use Rattle.unread.proofs.Messages.{MessageAs, only-as, message-as}
 
 module _ (s r : List ℕ) where
   pub record JudgedAs (j k : Judged) : Type 0 where
@@ -23,6 +23,10 @@ module _ (s r : List ℕ) where
     pub quiet : j .quiet ≡ k .quiet
     pub body : j .body ≡ k .body
     pub message : MessageAs s r (j .message) (k .message)
+
+  referenced-as : (l m : Leaf) → LeafAs s r l m → referenced s l ≡ referenced r m
+  unfolding referenced
+  referenced-as l m h = rw (only-as s r l m h, h .value)
 
   event-is-as : (l m : Leaf) → LeafAs s r l m → eventIs s l ≡ eventIs r m
   unfolding eventIs
@@ -39,6 +43,10 @@ module _ (s r : List ℕ) where
   module _ (m n : Message) (h : MessageAs s r m n) where
     abbrev i : InfoAs s r (infoIn m) (infoIn n)
     i = h .alert .info
+
+    lacks-as : lacksReferences s m ≡ lacksReferences r n
+    unfolding lacksReferences
+    lacks-as = rw (h .msgType, referenced-as _ _ (h .alert .references))
 
     quiet-as : quietOf m ≡ quietOf n
     unfolding quietOf
@@ -75,7 +83,8 @@ module _ (s r : List ℕ) where
     unfolding judgedBy
     judged-by-as =
         both-ways JudgedAs (eqb (m .number) 0) (eqb (n .number) 0) _ _ _ _ (ap (λ (x : ℕ). eqb x 0) (h .number))
-        (both-ways JudgedAs (quietOf m) (quietOf n) _ _ _ _ quiet-as (without-as 0 true) alerted-as)
+        (both-ways JudgedAs (lacksReferences s m) (lacksReferences r n) _ _ _ _ lacks-as (without-as 10 false)
+        (both-ways JudgedAs (quietOf m) (quietOf n) _ _ _ _ quiet-as (without-as 0 true) alerted-as))
         (record { number = h .number; field = h .field; quiet = refl; body = refl; message = h })
 
 pub judged-as : (s r : List ℕ) → OnlyUnreadDiffers s r → JudgedAs s r (judgedOf s) (judgedOf r)

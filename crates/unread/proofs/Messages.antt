@@ -1,5 +1,6 @@
--- Two messages that differ only in what is unread are read alike, with the same number and field of 4 to 10.
+-- Two messages that differ only in what is unread are read alike, with the same number and field of 4 to 9.
 --     MessageAs, message-as
+--     only-as                  a leaf that stands once stands once
 use Prim.Native.Nat.{ℕ, _+_}
 use Prim.Native.String.{String}
 use mathlib.Core.Path.{_≡_, refl, ap}
@@ -13,8 +14,8 @@ use Rattle.reads.specs.declared.Leaf as read-leaf
 use Rattle.reads.specs.declared.Info as read-info
 use Rattle.reads.specs.declared.Alert as read-alert
 use Rattle.message.specs.Root.{prefixOf, rootOk}
-use Rattle.reads.specs.WorkingLeaves.{sentLeaf}
-use Rattle.message.specs.WorkingJudged.{onlyOf, identified, timed, placeAmong, typed, statusOf, msgTypeOf, scopeOf, infoOk, fieldOf, referenced, numberWith, messageNumber}
+use Rattle.reads.specs.WorkingLeaves.{onlyOf, sentLeaf}
+use Rattle.message.specs.WorkingJudged.{identified, timed, placeAmong, typed, statusOf, msgTypeOf, scopeOf, infoOk, fieldOf, numberWith, messageNumber}
 use Rattle.message.specs.WorkingMessage.{refusedAs, judged, judgedRoot, ofRoot, messageSays}
 use Rattle.message.specs.declared.Message.{Message}
 use Rattle.leaves.proofs.Reals.{leaf-is}
@@ -33,7 +34,7 @@ module _ (s r : List ℕ) where
 
   -- ---- leaves
 
-  only-as : (l m : read-leaf.Leaf) → LeafAs s r l m → onlyOf l ≡ onlyOf m
+  pub only-as : (l m : read-leaf.Leaf) → LeafAs s r l m → onlyOf l ≡ onlyOf m
   unfolding onlyOf
   only-as l m h = rw (h .count, h .holds)
 
@@ -52,10 +53,6 @@ module _ (s r : List ℕ) where
   typed-as : (l m : read-leaf.Leaf) → LeafAs s r l m → typed s l ≡ typed r m
   unfolding typed
   typed-as l m h = rw (only-as l m h, h .value)
-
-  pub referenced-as : (l m : read-leaf.Leaf) → LeafAs s r l m → referenced s l ≡ referenced r m
-  unfolding referenced
-  referenced-as l m h = rw (only-as l m h, h .value)
 
   info-ok-as : (i j : read-info.Info) → InfoAs s r i j → infoOk i ≡ infoOk j
   unfolding infoOk
@@ -91,7 +88,7 @@ module _ (s r : List ℕ) where
 
     number-as : messageNumber s a ≡ messageNumber r b
     unfolding numberWith
-    number-as = rw (field-as, status-as, scope-as, msg-type-as, referenced-as _ _ (h .references))
+    number-as = rw (field-as, status-as, scope-as, msg-type-as)
 
     judged-as : MessageAs (judged s a) (judged r b)
     unfolding judged

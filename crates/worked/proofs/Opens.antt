@@ -19,7 +19,7 @@ use Rattle.values.specs.Chars as values-chars
 use Rattle.values.specs.Value.{collapsed, runs, small, trimmed}
 use Rattle.values.specs.WorkingSteps.{sixDigits}
 use Rattle.values.specs.Value as values-value
-use Rattle.reads.specs.WorkingLeaves.{pairOk, soundOf}
+use Rattle.reads.specs.WorkingLeaves.{onlyOf, pairOk, soundOf}
 use Rattle.reads.specs.Names.{localAt}
 use Rattle.reads.specs.WorkingSteps.{audioOf, audioStep, english, eventStep, locationStep, parameterStep, withLocation}
 use Rattle.gather.specs.WorkingRead.{alertOf, fromEnglish, infoOf, selected, selection}
@@ -38,13 +38,13 @@ use Rattle.parts.specs.Originator.{originatorBytes, originatorOf}
 use Rattle.parts.specs.Parts.{eventOk, isPeriod, isStationByte, isZero, stationOk}
 use Rattle.header.specs.Body.{bodyBytes, bodyForm, headForm, lengthForm, locationsBytes, locationsForm, periodForm, timeForm, timesBytes}
 use Rattle.header.specs.Header.{headerBytes}
-use Rattle.message.specs.WorkingJudged.{identified, infoOk, numberWith, onlyOf, referenced, timed, typed}
+use Rattle.message.specs.WorkingJudged.{identified, infoOk, numberWith, timed, typed}
 use Rattle.message.specs.WorkingJudged as message-judged
 use Rattle.message.specs.WorkingMessage.{judged, messageSays, ofRoot}
 use Rattle.message.specs.WorkingMessage as message-message
 use Rattle.message.specs.Root.{beforeColon, colonAt, isNamespace, prefixOf, rootOk, rootWith, xmlnsOf}
 use Rattle.judgement.specs.WorkingJudged.{alerted, bodyWith, judgedBy}
-use Rattle.judgement.specs.WorkingRules.{eventIs, located, originOf, quietOf, secondsTo, unplaced}
+use Rattle.judgement.specs.WorkingRules.{eventIs, lacksReferences, located, originOf, quietOf, referenced, secondsTo, unplaced}
 use Rattle.sentence.specs.Words.{locationWord, orgWords, others, sentenceOf, whenWords, whoWords, wordsIn}
 use Rattle.sentence.specs.Words as sentence-words
 use Rattle.wording.specs.Text.{afterSpace, cut, lastParts, phrase, roomOf, sharesOf, textOf}
@@ -91,7 +91,7 @@ unfolding chars charsTo fold met nextAt spelled textAt values-chars.passed value
 values-opens = tt
 
 reads-opens : Unit {0}
-unfolding pairOk soundOf localAt audioOf audioStep english eventStep locationStep parameterStep withLocation
+unfolding onlyOf pairOk soundOf localAt audioOf audioStep english eventStep locationStep parameterStep withLocation
 reads-opens = tt
 
 gather-opens : Unit {0}
@@ -103,12 +103,12 @@ unfolding identityOk indexIn isIdentityByte msgTypeIn behind groupOk referencesO
 fields-opens = tt
 
 message-opens : Unit {0}
-unfolding identified infoOk numberWith onlyOf referenced timed typed message-judged.placeAmong judged messageSays ofRoot message-message.judgedRoot beforeColon colonAt
+unfolding identified infoOk numberWith timed typed message-judged.placeAmong judged messageSays ofRoot message-message.judgedRoot beforeColon colonAt
     isNamespace prefixOf rootOk rootWith xmlnsOf
 message-opens = tt
 
 judgement-opens : Unit {0}
-unfolding alerted bodyWith judgedBy eventIs located originOf quietOf secondsTo unplaced
+unfolding alerted bodyWith judgedBy eventIs lacksReferences located originOf quietOf referenced secondsTo unplaced
 judgement-opens = tt
 
 sentence-opens : Unit {0}

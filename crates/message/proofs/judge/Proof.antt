@@ -16,9 +16,6 @@ element-copy-out-msg-type-leaf c = search needs
 element-copy-out-scope-leaf : tie.Need-element-copy-out-scope-leaf
 element-copy-out-scope-leaf c = search needs
 
-element-copy-out-references : tie.Need-element-copy-out-references
-element-copy-out-references c = search needs
-
 time-of-requires : tie.Need-time-of-requires
 time-of-requires c κs = search needs
 
@@ -52,7 +49,6 @@ judge-spec =
     element-copy-out-status-leaf
     element-copy-out-msg-type-leaf
     element-copy-out-scope-leaf
-    element-copy-out-references
     time-of-requires
     status-of-requires
     msg-type-of-requires

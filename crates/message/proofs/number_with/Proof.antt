@@ -1,34 +1,21 @@
 -- By the tests, in the order of document 01; behind those of field, status and scope the msgType decides.
 use Prim.Native.Nat.{ℕ}
-use denote.Ref.{now}
-use mathlib.Core.Path.{_≡_, refl, _∙_}
-use mathlib.Core.Bool.{Bool, true, false, _&&_, not}
-use mathlib.Core.List.{List}
+use mathlib.Core.Path.{_≡_}
 use borrow.Author.Needs.{needs}
 use borrow.Author.Tests.{eq-eqb, ne-eqb}
 use Rattle.octets.specs.Bytes.{pick}
-use Rattle.reads.specs.declared.Leaf.{Leaf}
 use Rattle.fields.specs.declared.MsgType.{MsgType}
-use Rattle.message.specs.WorkingJudged.{isAckOrError, asksReferences, referenced, numberWith}
+use Rattle.message.specs.WorkingJudged.{isAckOrError, numberWith}
 use Rattle.message.proofs.number_with.Statement.{statement}
 use Rattle.message.proofs.number_with.Tie as tie
 
-turned : (b : Bool) → pick {A = ℕ} b 0 10 ≡ pick (not b) 10 0
-turned true = refl
-turned false = refl
-
--- the number by the msgType
-abbrev byType : List ℕ → MsgType → Leaf → ℕ
-byType s t references = pick (isAckOrError t) 9 (pick (asksReferences t && not (referenced s references)) 10 0)
-
-decided : (s : List ℕ) (field status scope : ℕ) (t u : MsgType) (l : Leaf) → field ≡ 0 → status ≡ 1 → scope ≡ 1 → u ≡ t →
-    byType s t l ≡ numberWith s field status scope u l
+decided : (field status scope : ℕ) (t u : MsgType) → field ≡ 0 → status ≡ 1 → scope ≡ 1 → u ≡ t → pick (isAckOrError t) 9 0 ≡ numberWith field status scope u
 unfolding numberWith
-decided s field status scope t u l p q r e = rw (eq-eqb field 0 p, eq-eqb status 1 q, eq-eqb scope 1 r, e)
+decided field status scope t u p q r e = rw (eq-eqb field 0 p, eq-eqb status 1 q, eq-eqb scope 1 r, e)
 
-told : (c : tie.Else3) (t : MsgType) → let a = c .before .before .before .before .args in
-    a .msg-type ≡ t → byType (now (a .s)) t (a .references) ≡ numberWith (now (a .s)) (a .field) (a .status) (a .scope) (a .msg-type) (a .references)
-told c t e = decided _ _ _ _ t _ _ (c .before .before .if1 .left) (c .before .if2 .left) (c .if3 .left) e
+told : (c : tie.Else3) (t : MsgType) → let a = c .before .before .before .args in
+    a .msg-type ≡ t → pick (isAckOrError t) 9 0 ≡ numberWith (a .field) (a .status) (a .scope) (a .msg-type)
+told c t e = decided _ _ _ t _ (c .before .before .if1 .left) (c .before .if2 .left) (c .if3 .left) e
 
 returns : tie.Need-returns
 unfolding numberWith
@@ -51,14 +38,8 @@ enum-told-2 c = search needs
 enum-told-3 : tie.Need-enum-told-3
 enum-told-3 c = search needs
 
-number-of-references-requires : tie.Need-number-of-references-requires
-number-of-references-requires c κs = search needs
-
 enum-told-4 : tie.Need-enum-told-4
 enum-told-4 c = search needs
-
-number-of-references-requires-2 : tie.Need-number-of-references-requires-2
-number-of-references-requires-2 c κs = search needs
 
 enum-told-5 : tie.Need-enum-told-5
 enum-told-5 c = search needs
@@ -73,16 +54,10 @@ returns-5 : tie.Need-returns-5
 returns-5 c = told (c .before .before) _ (c .enum-told2 .given .1)
 
 returns-6 : tie.Need-returns-6
-returns-6 c =
-    let d = c .before .before .before in
-    let a = d .before .before .before .before .args in
-    c .number-of-references .ensures ∙ turned (referenced (now (a .s)) (a .references)) ∙ told d _ (c .before .enum-told3 .given .1)
+returns-6 c = told (c .before .before) _ (c .enum-told3 .given .1)
 
 returns-7 : tie.Need-returns-7
-returns-7 c =
-    let d = c .before .before .before in
-    let a = d .before .before .before .before .args in
-    c .number-of-references2 .ensures ∙ turned (referenced (now (a .s)) (a .references)) ∙ told d _ (c .before .enum-told4 .given .1)
+returns-7 c = told (c .before .before) _ (c .enum-told4 .given .1)
 
 returns-8 : tie.Need-returns-8
 returns-8 c = told (c .before .before) _ (c .enum-told5 .given .1)
@@ -100,9 +75,7 @@ number-with-spec =
     enum-told
     enum-told-2
     enum-told-3
-    number-of-references-requires
     enum-told-4
-    number-of-references-requires-2
     enum-told-5
     enum-told-6
     returns-4

@@ -3,7 +3,7 @@ use mathlib.Core.Path.{_≡_, sym, _∙_}
 use mathlib.Core.Bool.{true}
 use native.Mathlib.Omega.{arith}
 use borrow.Author.Tests.{not-true, not-false}
-use Rattle.message.specs.WorkingJudged.{asksReferences}
+use Rattle.judgement.specs.WorkingRules.{asksReferences}
 use Rattle.offers.proofs.Taken.{Ready, ready}
 use Rattle.offers.proofs.Putting.{as-long, put-alone, put-both}
 use borrow.Author.Needs.{needs}
@@ -11,7 +11,7 @@ use Rattle.offers.proofs.put_records.Statement.{statement}
 use Rattle.offers.proofs.put_records.Tie as tie
 
 -- back from one place to another
-abbrev to-notice : tie.After-has-references → tie.After-put-notice
+abbrev to-notice : tie.After-asks-references → tie.After-put-notice
 to-notice c = c .before .before .before .before
 
 abbrev to-start : tie.After-put-notice → tie.Start
@@ -21,13 +21,13 @@ told : (c : tie.Start) → Ready (c .args .s .now) (c .args .j)
 told c = ready _ _ (c .pre .0) (c .pre .1)
 
 has : (c : tie.Else1) → asksReferences (to-start (to-notice (c .before)) .args .j .message .«msg_type») ≡ true
-has c = sym (c .before .has-references .ensures) ∙ not-false _ (c .if1 .left)
+has c = sym (c .before .asks-references .ensures) ∙ not-false _ (c .if1 .left)
 
 put-notice-requires : tie.Need-put-notice-requires
 put-notice-requires c κs = search needs
 
-has-references-requires : tie.Need-has-references-requires
-has-references-requires c κs = search needs
+asks-references-requires : tie.Need-asks-references-requires
+asks-references-requires c κs = search needs
 
 same-length : tie.Need-same-length
 same-length c = search needs
@@ -35,7 +35,7 @@ same-length c = search needs
 returns : tie.Need-returns
 returns c =
     let n = to-notice (c .before) in
-    put-alone _ _ _ _ _ (n .put-notice .ensures .0) (n .put-notice .ensures .1) (sym (c .before .has-references .ensures) ∙ not-true _ (c .if1 .taken))
+    put-alone _ _ _ _ _ (n .put-notice .ensures .0) (n .put-notice .ensures .1) (sym (c .before .asks-references .ensures) ∙ not-true _ (c .if1 .taken))
 
 element-copy-out-references : tie.Need-element-copy-out-references
 element-copy-out-references c = search needs
@@ -64,7 +64,7 @@ put-records-spec =
     tie.close
     (tie.spec
     put-notice-requires
-    has-references-requires
+    asks-references-requires
     same-length
     returns
     element-copy-out-references

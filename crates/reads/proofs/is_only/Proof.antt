@@ -1,10 +1,10 @@
 -- By the tests, one after the other.
 use borrow.Author.Tests.{eq-eqb, ne-eqb}
 use mathlib.Core.Bool.{and-true}
-use Rattle.message.specs.WorkingJudged.{onlyOf}
+use Rattle.reads.specs.WorkingLeaves.{onlyOf}
 use Rattle.octets.specs.Bytes.{every}
-use Rattle.message.proofs.is_only.Statement.{statement}
-use Rattle.message.proofs.is_only.Tie as tie
+use Rattle.reads.proofs.is_only.Statement.{statement}
+use Rattle.reads.proofs.is_only.Tie as tie
 
 returns : tie.Need-returns
 unfolding onlyOf every

@@ -1,10 +1,10 @@
 -- A leaf that is not the only one is none; else its value decides.
 use mathlib.Core.Path.{sym, _∙_}
 use borrow.Author.Tests.{not-true, not-false}
-use Rattle.message.specs.WorkingJudged.{referenced}
+use Rattle.judgement.specs.WorkingRules.{referenced}
 use borrow.Author.Needs.{needs}
-use Rattle.message.proofs.has_references.Statement.{statement}
-use Rattle.message.proofs.has_references.Tie as tie
+use Rattle.judgement.proofs.has_references.Statement.{statement}
+use Rattle.judgement.proofs.has_references.Tie as tie
 
 is-only-requires : tie.Need-is-only-requires
 is-only-requires c κs = search needs
