@@ -61,9 +61,9 @@ fn put_audio(s: &[u8], e: Audio, out: &mut [u8], at: usize) -> usize {
 }
 
 fn put_parameters(s: &[u8], e: Parameters, out: &mut [u8], at: usize) -> usize {
-    let originator = e.originator;
-    let text = e.text;
-    let carry = e.carry;
+    let originator = e.leaf[reads::EAS_ORG];
+    let text = e.leaf[reads::EAS_TEXT];
+    let carry = e.leaf[reads::MUST_CARRY];
     let first = put_leaf(s, originator, out, at);
     let second = put_leaf(s, text, out, first);
     put_leaf(s, carry, out, second)

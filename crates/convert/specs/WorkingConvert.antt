@@ -11,7 +11,7 @@ use Rattle.values.specs.Value.{valueAt}
 use Rattle.parts.specs.Parts.{bodyOk, stationOk}
 use Rattle.parts.specs.declared.Body.{Body}
 use Rattle.header.specs.Header.{headerBytes}
-use Rattle.reads.specs.WorkingLeaves.{senderNameLeaf, descriptionLeaf, instructionLeaf}
+use Rattle.reads.specs.WorkingLeaves.{easTextLeaf, mustCarryLeaf, senderNameLeaf, descriptionLeaf, instructionLeaf}
 use Rattle.reads.specs.WorkingSteps.{says}
 use Rattle.reads.specs.declared.Audio.{Audio}
 use Rattle.reads.specs.declared.Info.{Info}
@@ -32,7 +32,7 @@ stationHeader station b = headerBytes (record { body = b; station = station })
 unfoldable pub textIn : List ℕ → Judged → List ℕ
 textIn s j =
     let i = infoIn (j .message) in
-    textOf (sentenceOf (j .body)) (valueAt s (i .parameters .text .at)) (valueAt s (senderNameLeaf i .at)) (valueAt s (descriptionLeaf i .at)) (valueAt s (instructionLeaf i .at))
+    textOf (sentenceOf (j .body)) (valueAt s (easTextLeaf i .at)) (valueAt s (senderNameLeaf i .at)) (valueAt s (descriptionLeaf i .at)) (valueAt s (instructionLeaf i .at))
 
 -- the uri of the audio choice; none without audio
 unfoldable pub uriIn : List ℕ → Audio → List ℕ
@@ -40,7 +40,7 @@ uriIn s a = pick (eqb (a .number) 0) [] (valueAt s (a .uri))
 
 -- must-carry: the first EAS-Must-Carry parameter is `True`
 abbrev pub carryIn : List ℕ → Info → Bool
-carryIn s i = says s (i .parameters .carry .at) (bytes "True")
+carryIn s i = says s (mustCarryLeaf i .at) (bytes "True")
 
 -- a message that answers 0 and is not quiet
 unfoldable pub alertGiven : List ℕ → List ℕ → Judged → Given

@@ -80,7 +80,7 @@ fn put_text(s: &[u8], j: Judged, out: &mut [u8]) -> usize
     let a = m.alert;
     let i = a.info;
     let parameters = i.parameters;
-    let eas = parameters.text;
+    let eas = parameters.leaf[reads::EAS_TEXT];
     let sender = i.leaf[reads::SENDER_NAME];
     let description = i.leaf[reads::DESCRIPTION];
     let instruction = i.leaf[reads::INSTRUCTION];
@@ -128,7 +128,7 @@ fn write(
     let i = a.info;
     let audio = i.audio;
     let parameters = i.parameters;
-    let carry = parameters.carry;
+    let carry = parameters.leaf[reads::MUST_CARRY];
     let carried = values::equal(s, carry.at, b"True");
     let headed = put_header(station, body, header);
     let worded = put_text(s, j, text);

@@ -22,7 +22,8 @@ use Rattle.parts.specs.Originator.{originatorBytes, originatorOf, isKnown}
 use Rattle.parts.specs.Parts.{eventOk}
 use Rattle.parts.specs.declared.Originator.the-variants.{Pep, Eas, Wxr, Civ}
 use Rattle.parts.specs.declared.Origin.the-variants.{Known, Unknown}
-use Rattle.reads.specs.WorkingLeaves.{noLeaf}
+use Rattle.reads.specs.Parameters.{easOrg}
+use Rattle.reads.specs.WorkingLeaves.{noLeaf, easOrgLeaf}
 use Rattle.reads.specs.declared.Info.{Info}
 use Rattle.reads.specs.declared.Leaf.{Leaf}
 use Rattle.reads.specs.declared.Locations.{Locations}
@@ -32,12 +33,12 @@ use Rattle.leaves.specs.Leaf.{leafValue}
 use Rattle.message.specs.WorkingMessage.{judged}
 use Rattle.judgement.specs.WorkingRules.{eventIs, originOf, located, secondsTo, unplaced, quietOf}
 use Rattle.judgement.specs.WorkingJudged.{lasting}
-use Rattle.told.specs.Values.{isNone, passing, firstValue, is, isOne, valuesNamed, parameters, isSix, audioIn}
+use Rattle.told.specs.Values.{isNone, passing, firstValue, is, isOne, parameters, isSix, audioIn}
 use Rattle.told.proofs.Leaves.{leaf-value, leaf-none}
-use Rattle.told.proofs.Infos.{FoundTells, events-tell, parameters-tell, AudioTells, audio-tells}
+use Rattle.told.proofs.Infos.{FoundTells, events-tell, ParametersTell, parameters-tell, AudioTells, audio-tells}
 use Rattle.told.proofs.Locations.{LocationsTell, locations-tell}
 use Rattle.told.proofs.Alerts.{selected-tells, selected-none, selected-real}
-use Rattle.demands.specs.Message.{prefix, alert, info, expires, senderName, description, instruction, events, locations, originator, isQuiet}
+use Rattle.demands.specs.Message.{prefix, alert, info, expires, senderName, description, instruction, events, locations, parameterValues, originator, isQuiet}
 use Rattle.demands.specs.Message.{sentSeconds, expiresSeconds}
 use Rattle.demands.specs.Numbers.{isEvent}
 use Rattle.demands.proofs.Fields.{alert-real, read, Faultless}
@@ -51,9 +52,7 @@ leafOf i k = getD (i .leaf) k (noLeaf 0)
 
 pub record Told (s : List ℕ) (i : Info) : Type 0 where
   pub events : FoundTells s (i .events .same) (events s)
-  pub originators : FoundTells s (i .parameters .originator) (valuesNamed "EAS-ORG" (parameters s (prefix s) (info s)))
-  pub texts : FoundTells s (i .parameters .text) (valuesNamed "EASText" (parameters s (prefix s) (info s)))
-  pub carries : FoundTells s (i .parameters .carry) (valuesNamed "EAS-Must-Carry" (parameters s (prefix s) (info s)))
+  pub parameters : ParametersTell s (i .parameters) (parameters s (prefix s) (info s))
   pub locations : LocationsTell (i .locations) (locations s)
   pub audio : AudioTells s (i .audio) (audioIn s (prefix s) (info s))
   pub endless : eqb (leafOf i 1 .count) 0 ≡ isNone (named s (prefix s) "expires" (info s))
@@ -69,13 +68,10 @@ told s k =
     let t = info s in
     let r = selected-real s p (alert s) (alert-real s) in
     let e = each-of _ (k .info-sound) in
-    let x = parameters-tell s p t r (e .1 .1 .1 .1 .1 .0) in
     subst (Told s) (sym (selected-tells s p (alert s) (alert-real s)))
     (record {
       events = events-tell s p t r (e .1 .1 .1 .1 .0);
-      originators = x .originator;
-      texts = x .text;
-      carries = x .carry;
+      parameters = parameters-tell s p t r (e .1 .1 .1 .1 .1 .0);
       locations = locations-tell s p t r (e .1 .1 .1 .1 .1 .1 .0);
       audio = audio-tells s p t r (e .1 .1 .1 .1 .1 .1 .1 .0);
       endless = leaf-none s p "expires" t r;
@@ -193,14 +189,14 @@ module _ (s : List ℕ) (k : Faultless s) where
   unfolding eventIs eventOk
   event-said = let x = told s k .events in rw (x .count, two-one (length (events s)), x .value)
 
-  pub origin-said : originOf s (read s .info .parameters .originator) ≡ originatorOf (originator s)
+  pub origin-said : originOf s (easOrgLeaf (read s .info)) ≡ originatorOf (originator s)
   unfolding originOf
   origin-said =
-      let x = told s k .originators in
-      let vs = valuesNamed "EAS-ORG" (parameters s (prefix s) (info s)) in
+      let x = told s k .parameters .each 0 (omega arith) in
+      let vs = parameterValues easOrg s in
       rw (x .count, two-none vs, x .value) (first-origin vs)
 
-  pub known-said : isKnown (originOf s (read s .info .parameters .originator)) ≡ hasOrigin s
+  pub known-said : isKnown (originOf s (easOrgLeaf (read s .info))) ≡ hasOrigin s
   known-said = rw origin-said (known-is (originator s))
 
   pub places-said : located (read s .info .locations) ≡ hasPlaces s

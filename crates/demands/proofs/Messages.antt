@@ -3,6 +3,7 @@
 --     quiet-is, body-is               of one that answers 0: whether it is quiet, and the header that it gives
 --     key-is, names-are, records-are  its own key, the keys that it names, and the records that it leaves
 --     whole-is                        its header, text, audio and must-carry for a station
+use native.Mathlib.Omega.{arith}
 use Prim.Native.Nat.{ℕ, zero, suc}
 use Prim.Native.String.{String}
 use mathlib.Core.Path.{_≡_, refl, sym, ap, ap₂, _∙_}
@@ -184,4 +185,4 @@ module _ (s : List ℕ) (zero : judgedOf s .number ≡ 0) where
   unfolding alertGiven wholeOf textIn uriIn judged
   whole-is station loud =
       let t = told s sound in
-      rw (body-is loud, kept, t .texts .value, t .senderName, t .description, t .instruction, t .audio .uri, t .audio .number, t .carries .value)
+      rw (body-is loud, kept, t .parameters .each 1 (omega arith) .value, t .senderName, t .description, t .instruction, t .audio .uri, t .audio .number, t .parameters .each 2 (omega arith) .value)

@@ -15,8 +15,9 @@ use Rattle.parts.specs.declared.Parts.{Parts}
 use Rattle.header.specs.Header.{headerBytes}
 use Rattle.markup.specs.Tree.{Forest, nil, One, one, none}
 use Rattle.markup.specs.Document.{docAt}
+use Rattle.reads.specs.Parameters.{ReadParameter, easOrg, easText, easMustCarry}
 use Rattle.gather.specs.Read.{named}
-use Rattle.told.specs.Values.{isNone, firstValue, is, valueOf, valuesNamed, eventCodes, parameters, geocodes, selectedIn, audioIn}
+use Rattle.told.specs.Values.{isNone, firstValue, is, valueOf, valuesUnder, valuesNamed, eventCodes, parameters, geocodes, selectedIn, audioIn}
 use Rattle.message.specs.Root.{prefixOf}
 use Rattle.sentence.specs.Words.{sentenceOf}
 use Rattle.wording.specs.Text.{textOf}
@@ -86,9 +87,13 @@ events s = valuesNamed "SAME" (eventCodes s (prefix s) (info s))
 abbrev pub locations : List ℕ → List (List ℕ)
 locations s = valuesNamed "SAME" (geocodes s (prefix s) (info s))
 
+-- the values of its parameters of one row
+abbrev pub parameterValues : ReadParameter → List ℕ → List (List ℕ)
+parameterValues r s = valuesUnder r (parameters s (prefix s) (info s))
+
 -- ORG: first EAS-ORG parameter; absent means CIV
 abbrev pub originator : List ℕ → List ℕ
-originator s = firstValue (valuesNamed "EAS-ORG" (parameters s (prefix s) (info s)) ++ (bytes "CIV" ∷ []))
+originator s = firstValue (parameterValues easOrg s ++ (bytes "CIV" ∷ []))
 
 -- a Cancel with no info, no SAME eventCode, no SAME geocode or no expires is quiet
 abbrev pub isQuiet : List ℕ → Bool
@@ -126,11 +131,11 @@ headerParts s station = record { body = headerBody s; station = station }
 -- the sentence of these parts, with the first EASText, or senderName, description and instruction
 abbrev pub alertText : List ℕ → List ℕ
 alertText s =
-    textOf (sentenceOf (headerBody s)) (firstValue (valuesNamed "EASText" (parameters s (prefix s) (info s)))) (senderName s) (description s) (instruction s)
+    textOf (sentenceOf (headerBody s)) (firstValue (parameterValues easText s)) (senderName s) (description s) (instruction s)
 
 -- must-carry: the first EAS-Must-Carry parameter is `True`
 abbrev pub mustCarry : List ℕ → Bool
-mustCarry s = is "True" (firstValue (valuesNamed "EAS-Must-Carry" (parameters s (prefix s) (info s))))
+mustCarry s = is "True" (firstValue (parameterValues easMustCarry s))
 
 -- all that a message gives that answers 0 and is not quiet
 unfoldable pub wholeOf : List ℕ → List ℕ → Given

@@ -1,10 +1,11 @@
 -- The end of an element that is no leaf, in the numbers that are lent: l before, o or p after.
 --     event-left, parameter-left, resource-left, geocode-left    a part of the info is put, and the pair is read anew
+--     parameter-fault, parameter-other, parameter-found          the fault of the parameters is put, nothing, or the leaf of a row
 --     location-fault, location-bad                               one bit of the locations is put
 --     fault-put, fault-none                                      the alert's fault by the info's language
 --     chosen-english, chosen-first, chosen-none                  the info that has been read is kept, or not
 --     later-left, info-left                                      the fault is put, an info is chosen, and one is read anew
-use Prim.Native.Nat.{ℕ, _+_, _≤_}
+use Prim.Native.Nat.{ℕ, _+_, _*_, _≤_, _<_}
 use mathlib.Core.Path.{_≡_, refl, sym, ap, _∙_}
 use mathlib.Core.Bool.{Bool, true, false, or-true, or-false}
 use mathlib.Core.List.{List}
@@ -12,11 +13,12 @@ use mathlib.Core.Logic.{inl, inr}
 use native.Mathlib.Omega.{arith}
 use lib.ListN.{length, replicate}
 use Rattle.octets.specs.Bytes.{pick}
-use Rattle.reads.specs.WorkingLeaves.{noLeaf, noInfo, soundOf, languageLeaf}
-use Rattle.reads.specs.WorkingSteps.{eventStep, parameterStep, locationStep, audioStep, english, languageFault, isNothing, infoStep, laterStep}
+use Rattle.values.specs.Value.{valueAt}
+use Rattle.reads.specs.Parameters.{readParameters, parameterCount}
+use Rattle.reads.specs.WorkingLeaves.{noLeaf, found, pairOk, noInfo, soundOf, languageLeaf}
+use Rattle.reads.specs.WorkingSteps.{eventStep, parameterStep, rowOf, locationStep, audioStep, english, languageFault, isNothing, infoStep, laterStep}
 use Rattle.reads.specs.declared.Leaf.{Leaf}
 use Rattle.reads.specs.declared.Events.{Events}
-use Rattle.reads.specs.declared.Parameters.{Parameters}
 use Rattle.reads.specs.declared.Audio.{Audio}
 use Rattle.reads.specs.declared.Info.{Info}
 use Rattle.reads.specs.declared.Kept.{Kept}
@@ -24,13 +26,15 @@ use Rattle.reads.specs.declared.Kept.the-variants.{First, Selected}
 use Rattle.reads.specs.declared.State.{State}
 use Rattle.reads.specs.declared.Context.{Context}
 use Rattle.reads.specs.declared.Context.the-variants.{EventCode, Parameter, Geocode, Resource}
-use Rattle.lent.specs.WorkingLent.{numberIn, keptNumbered, lentLeaf, lentLeaves, lentEvents, lentAudio, lentLocations, lentParameters, lentInfo, pairFrom, infoFrom}
+use Rattle.lent.specs.WorkingLent.{numberIn, keptNumbered, lentLeaf, lentLeaves, lentEvents, lentAudio, lentLocations, parameterNumbers, infoNumbers, lentParameters, lentInfo, pairFrom, infoFrom, parametersFrom}
 use Rattle.lent.specs.WorkingLent.{chosenFrom, lentSize, lentState, ButFor}
-use Rattle.lent.proofs.Parts.{but-alike, but-wider, but-nothing, numbers-as}
-use Rattle.lent.proofs.Puts.{PutNumber, PutBit, PutEvents, PutAudio, PutParameters, PutLocations}
+use Rattle.reads.proofs.ParameterRows.{no-row-of-it, own-row, apart}
+use Rattle.lent.proofs.Parts.{but-alike, but-wider, but-nothing, leaves-as, numbers-as}
+use Rattle.lent.proofs.Puts.{PutNumber, PutBit, PutLeaf, PutEvents, PutAudio, PutParameters, PutLocations}
 use Rattle.lent.proofs.States.{info-events, info-audio, info-locations, info-parameters, state-number, state-fault, state-pair, state-info, state-chosen}
 use Rattle.gather.specs.WorkingVisit.{pairAdded, pairLeft, infoLeft, laterLeft}
 use Rattle.gather.specs.WorkingLentVisit.{keptInfo, infoChosen}
+use Rattle.gather.proofs.Slots.{leaves-put, leaf-get}
 
 -- m is l with this put at a
 
@@ -38,7 +42,7 @@ abbrev pub PutPair : List ℕ → List ℕ → ℕ → List Leaf → Type 0
 PutPair l m a q = ButFor l m a 6 × (lentLeaves 2 m a ≡ q)
 
 abbrev pub PutInfo : List ℕ → List ℕ → ℕ → Info → Type 0
-PutInfo l m a i = ButFor l m a 66 × (lentInfo m a ≡ i)
+PutInfo l m a i = ButFor l m a infoNumbers × (lentInfo m a ≡ i)
 
 -- o is this state
 abbrev pub StateIs : List ℕ → State → Type 0
@@ -69,13 +73,6 @@ module _ {l m o : List ℕ} {x y : Leaf} (s : List ℕ) (long : length l ≡ len
       pair-left EventCode 44 4 (omega arith) (omega arith) (put .0)
       (info-events l m infoFrom _ (put .0) (put .1 ∙ step ∙ λ i. eventStep s (had i) (name i) (value i)))
 
-  pub parameter-left : {d e : Parameters} → d ≡ lentParameters l 85 → e ≡ parameterStep s d x y → PutParameters l m 85 e
-      → StateIs o (pairLeft s Parameter (lentState l))
-  unfolding pairAdded lentInfo
-  parameter-left had step put =
-      pair-left Parameter 85 10 (omega arith) (omega arith) (put .0)
-      (info-parameters l m infoFrom _ (put .0) (put .1 ∙ step ∙ λ i. parameterStep s (had i) (name i) (value i)))
-
   pub resource-left : {d e : Audio} → d ≡ lentAudio l 48 → e ≡ audioStep s d x y → PutAudio l m 48 e → StateIs o (pairLeft s Resource (lentState l))
   unfolding pairAdded lentInfo
   resource-left had step put =
@@ -87,6 +84,46 @@ module _ {l m o : List ℕ} {x y : Leaf} (s : List ℕ) (long : length l ≡ len
   geocode-left put =
       pair-left Geocode 51 34 (omega arith) (omega arith) (put .0)
       (info-locations l m infoFrom _ (put .0) (put .1 ∙ λ i. locationStep s (lentLocations l 51) (name i) (value i)))
+
+  pub parameter-left : PutParameters l m parametersFrom (parameterStep s (lentParameters l parametersFrom) x y) → StateIs o (pairLeft s Parameter (lentState l))
+  unfolding pairAdded lentInfo
+  parameter-left put =
+      pair-left Parameter parametersFrom parameterNumbers (omega arith) (omega arith) (put .0)
+      (info-parameters l m infoFrom _ (put .0) (put .1 ∙ λ i. parameterStep s (lentParameters l parametersFrom) (name i) (value i)))
+
+-- ---- parameters
+
+all-leaves : (l : List ℕ) (a : ℕ) → length (lentLeaves parameterCount l a) ≡ parameterCount
+unfolding lentLeaves
+all-leaves l a = refl
+
+module _ (s l : List ℕ) (a : ℕ) (name value : Leaf) where
+  pub parameter-fault : {m : List ℕ} → pairOk name value ≡ false → PutBit l m a true → PutParameters l m a (parameterStep s (lentParameters l a) name value)
+  unfolding parameterStep
+  parameter-fault {m} h put = (
+    but-wider l m a 1 a parameterNumbers (put .0) (omega arith) (omega arith),
+    rw (h, put .1, leaves-as l m parameterCount (a + 1) (a + 1) (but-alike l m a 1 (a + 1) (3 * parameterCount) (put .0) (inr (omega arith)))),
+  )
+
+  module _ (paired : pairOk name value ≡ true) (k : ℕ) (is : k ≡ rowOf readParameters (valueAt s (name .at)) (valueAt s (value .at))) where
+    pub parameter-other : parameterCount ≤ k → PutParameters l l a (parameterStep s (lentParameters l a) name value)
+    unfolding parameterStep
+    parameter-other h = (but-nothing l a parameterNumbers, rw (paired, no-row-of-it s name value readParameters _ (all-leaves l (a + 1)) (omega (arith, h, is))))
+
+    pub parameter-found : {m : List ℕ} (b : ℕ) → b ≡ a + 1 + 3 * k → k < parameterCount → PutLeaf l m b (found (lentLeaf l b) (value .at))
+        → PutParameters l m a (parameterStep s (lentParameters l a) name value)
+    unfolding parameterStep
+    parameter-found {m} b at h put = (
+      but-wider l m b 3 a parameterNumbers (put .0) (omega (arith, at)) (omega (arith, at, h)),
+      rw (
+        paired,
+        put .0 .same a (inl (omega (arith, at))),
+        leaves-put l m parameterCount k (a + 1) b _ at h (put .0) (put .1),
+        own-row s name value readParameters _ (all-leaves l (a + 1)) (apart _ _) (omega (arith, h, is)),
+        sym is,
+        leaf-get l parameterCount k (a + 1) b at h,
+      ),
+    )
 
 -- ---- locations
 
@@ -167,7 +204,7 @@ module _ {l m o : List ℕ} (n : ℕ) (long : length l ≡ lentSize)
   unfolding laterStep
   later-left = (
     cleared .0 .long ∙ put .0 .long ∙ long,
-    state-info m o _ infoFrom 66 (omega arith) (omega arith) (cleared .0) (cleared .1) ∙ rw (state-fault l m _ (put .0) (put .1)),
+    state-info m o _ infoFrom infoNumbers (omega arith) (omega arith) (cleared .0) (cleared .1) ∙ rw (state-fault l m _ (put .0) (put .1)),
   )
 
 chosen-left : (s : List ℕ) (st : State)
@@ -197,5 +234,5 @@ module _ {l m o p : List ℕ} {x : Leaf} (s : List ℕ) (is : x ≡ lentLeaf l i
   pub info-left : StateIs p (infoLeft s (lentState l))
   info-left = (
     cleared .0 .long ∙ told .0,
-    state-info o p _ infoFrom 66 (omega arith) (omega arith) (cleared .0) (cleared .1) ∙ rw chosen-is,
+    state-info o p _ infoFrom infoNumbers (omega arith) (omega arith) (cleared .0) (cleared .1) ∙ rw chosen-is,
   )

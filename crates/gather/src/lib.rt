@@ -12,9 +12,9 @@ ghost use lib.ListN.{length};
 ghost use Rattle.tags.specs.Tags.{closeAt};
 ghost use Rattle.markup.specs.Tree.{elemAt, contentAt};
 ghost use Rattle.reads.specs.WorkingLeaves.{nothingRead};
-ghost use Rattle.reads.specs.WorkingSteps.{locationStep, english, languageFault};
+ghost use Rattle.reads.specs.WorkingSteps.{parameterStep, locationStep, english, languageFault};
 ghost use Rattle.reads.specs.declared.Context.the-variants.{EventCode, Parameter, Geocode, Resource};
-ghost use Rattle.lent.specs.WorkingLent.{numberIn, isSet, lentLocations, faultAt, locationsFrom, lentSize, lentState, ButFor};
+ghost use Rattle.lent.specs.WorkingLent.{numberIn, isSet, lentLocations, parameterNumbers, lentParameters, faultAt, locationsFrom, parametersFrom, lentSize, lentState, ButFor};
 ghost use Rattle.gather.specs.WorkingVisit.{touched, touchIn, pairLeft, infoLeft, laterLeft, left, leafPlace, settled, finished, gotOne, gotHeld};
 ghost use Rattle.gather.specs.WorkingLentVisit.{slotIn, slotOf, infoChosen, gotIn};
 
@@ -107,9 +107,26 @@ fn leave_parameter(s: &[u8], st: &mut [usize])
 {
     let x = lent::leaf_at(st, lent::PAIR);
     let y = lent::leaf_at(st, lent::PAIR + 3);
-    let e = lent::parameters_at(st, lent::PARAMETERS);
-    lent::put_parameters(st, lent::PARAMETERS, reads::parameter_step(s, e, x, y));
+    add_parameter(s, st, x, y);
     lent::clear_pair(st, s.len());
+}
+
+// What a parameter adds to the leaf of its row, by its valueName and its value.
+fn add_parameter(s: &[u8], st: &mut [usize], name: Leaf, value: Leaf)
+    requires { ⌜ length (now st) ≡ lentSize ⌝ }
+    ensures { λ _. ⌜ ButFor (now (st .entry)) (now (st .exit)) parametersFrom parameterNumbers ⌝ }
+    ensures { λ _. ⌜ lentParameters (now (st .exit)) parametersFrom ≡ parameterStep (now (s .entry)) (lentParameters (now (st .entry)) parametersFrom) name value ⌝ }
+{
+    if !reads::is_pair(name, value) {
+        lent::put_bit(st, lent::PARAMETERS, true);
+        return;
+    }
+    let k = reads::parameter_row(s, name.at, value.at);
+    if k < reads::PARAMETERS {
+        let a = lent::PARAMETERS + 1 + 3 * k;
+        let l = lent::leaf_at(st, a);
+        lent::put_leaf(st, a, reads::find(l, value.at));
+    }
 }
 
 fn leave_resource(s: &[u8], st: &mut [usize])

@@ -8,6 +8,7 @@ use Rattle.octets.specs.Bytes.{pick}
 use Rattle.values.specs.Value.{valueAt}
 use Rattle.parts.specs.declared.Originator.{Originator}
 use Rattle.parts.specs.declared.Origin.the-variants.{Known, Unknown}
+use Rattle.reads.specs.WorkingLeaves.{easOrgLeaf}
 use Rattle.reads.specs.declared.Leaf.{Leaf}
 use Rattle.message.specs.declared.Message.{Message}
 use Rattle.judgement.specs.WorkingRules.{infoIn, eventIs, noEvent, eventOf, originOf, located}
@@ -36,11 +37,11 @@ module _ (s : List ℕ) (m : Message) (e : Event) (heard : e ≡ eventOf s (info
   no-event h = rw (sym told ∙ h)
 
   module _ (ok : e .ok ≡ true) where
-    pub no-originator : originOf s (infoIn m .parameters .originator) ≡ Unknown → without m 12 false ≡ alerted s m
+    pub no-originator : originOf s (easOrgLeaf (infoIn m)) ≡ Unknown → without m 12 false ≡ alerted s m
     unfolding alerted
     no-originator h = rw (sym told ∙ ok, h)
 
-    module _ (o : Originator) (known : originOf s (infoIn m .parameters .originator) ≡ Known o) where
+    module _ (o : Originator) (known : originOf s (easOrgLeaf (infoIn m)) ≡ Known o) where
       pub no-location : located (infoIn m .locations) ≡ false → without m 13 false ≡ alerted s m
       unfolding alerted
       no-location h = rw (sym told ∙ ok, known, h)

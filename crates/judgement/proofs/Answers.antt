@@ -13,6 +13,7 @@ use borrow.Author.Tests.{eqb-true, eqb-false}
 use lib.Dec.{eqb}
 use Rattle.octets.proofs.Tests.{either-way}
 use Rattle.parts.specs.Originator.{isKnown}
+use Rattle.reads.specs.WorkingLeaves.{easOrgLeaf}
 use Rattle.message.specs.WorkingMessage.{messageSays}
 use Rattle.message.specs.declared.Message.{Message}
 use Rattle.leaves.proofs.Fits as fits
@@ -26,7 +27,7 @@ module _ (s : List ℕ) (m : Message) where
   unfolding alerted
   alerted-holds P refused alert =
       either-way P (eventIs s (infoIn m .events .same)) _ _
-      (λ _. either-way P (isKnown (originOf s (infoIn m .parameters .originator))) _ _
+      (λ _. either-way P (isKnown (originOf s (easOrgLeaf (infoIn m)))) _ _
       (λ _. either-way P (located (infoIn m .locations)) _ _
       (λ _. either-way P (eqb (lasting s m) 0) _ _ (λ _. refused 14 (omega arith)) (λ _. alert))
       (λ _. refused 13 (omega arith)))

@@ -21,6 +21,7 @@ use Rattle.parts.specs.Parts.{eventOk, isPeriod, bodyOk}
 use Rattle.parts.specs.declared.Originator.{Originator}
 use Rattle.parts.proofs.Has.{ok-of, event-long, event-capitals}
 use Rattle.parts.proofs.Periods.{period-quarter, period-half}
+use Rattle.reads.specs.WorkingLeaves.{easOrgLeaf}
 use Rattle.reads.specs.declared.Locations.{Locations}
 use Rattle.message.specs.WorkingMessage.{messageSays}
 use Rattle.message.specs.declared.Message.{Message}
@@ -38,7 +39,7 @@ pub record Alerting (s : List ℕ) (m : Message) : Type 0 where
   pub naming : lacksReferences s m ≡ false
   pub loud : quietOf m ≡ false
   pub event : eventIs s (infoIn m .events .same) ≡ true
-  pub origin : isKnown (originOf s (infoIn m .parameters .originator)) ≡ true
+  pub origin : isKnown (originOf s (easOrgLeaf (infoIn m))) ≡ true
   pub places : located (infoIn m .locations) ≡ true
   pub ends : eqb (lasting s m) 0 ≡ false
 
@@ -47,7 +48,7 @@ module _ (s : List ℕ) (m : Message) where
   unfolding judgedBy alerted
   alerting h q =
       go (quietOf m) refl (eventIs s (infoIn m .events .same)) refl
-      (isKnown (originOf s (infoIn m .parameters .originator))) refl (located (infoIn m .locations)) refl (eqb (lasting s m) 0) refl
+      (isKnown (originOf s (easOrgLeaf (infoIn m)))) refl (located (infoIn m .locations)) refl (eqb (lasting s m) 0) refl
     where
       a : eqb (m .number) 0 ≡ true
       a = eq-eqb (m .number) 0 (passed s m h .0)
@@ -56,7 +57,7 @@ module _ (s : List ℕ) (m : Message) where
       l = passed s m h .1
 
       go : (b : Bool) → quietOf m ≡ b → (c : Bool) → eventIs s (infoIn m .events .same) ≡ c →
-          (d : Bool) → isKnown (originOf s (infoIn m .parameters .originator)) ≡ d → (e : Bool) → located (infoIn m .locations) ≡ e →
+          (d : Bool) → isKnown (originOf s (easOrgLeaf (infoIn m))) ≡ d → (e : Bool) → located (infoIn m .locations) ≡ e →
           (f : Bool) → eqb (lasting s m) 0 ≡ f → Alerting s m
       go true b c _ d _ e _ f _ = let n : true ≡ false = rw (a, l, b) at q in absurd (true≢false n)
       go false b false c d _ e _ f _ = let n : _≡_ {A = ℕ} 11 0 = rw (a, l, b, c) at h in absurd (omega arith)
@@ -111,7 +112,7 @@ body-ok s h q =
     let m = messageSays s in
     let t = alerting s m h q in
     rw (alert-body s m t)
-    (body-with (known (originOf s (infoIn m .parameters .originator))) (valueAt s (infoIn m .events .same .at)) (infoIn m .locations) (lasting s m) (m .sent)
+    (body-with (known (originOf s (easOrgLeaf (infoIn m)))) (valueAt s (infoIn m .events .same .at)) (infoIn m .locations) (lasting s m) (m .sent)
     (and-right (eqb (infoIn m .events .same .count) 1) _ (t .event)) (locations-fit s) (some-of (infoIn m .locations) (t .places)) (positive (lasting s m) (t .ends)) (sent-in s))
   where
     positive : (n : ℕ) → eqb n 0 ≡ false → 0 < n

@@ -11,6 +11,7 @@ use Rattle.parts.specs.Originator.{isKnown, known}
 use Rattle.parts.specs.Parts.{noBody}
 use Rattle.parts.specs.declared.Originator.{Originator}
 use Rattle.parts.specs.declared.Body.{Body}
+use Rattle.reads.specs.WorkingLeaves.{easOrgLeaf}
 use Rattle.reads.specs.declared.Locations.{Locations}
 use Rattle.message.specs.WorkingMessage.{messageSays}
 use Rattle.message.specs.declared.Message.{Message}
@@ -41,7 +42,7 @@ lasting s m = secondsTo s (expiresIn m) (m .sent)
 abbrev pub bodyIn : List ℕ → Message → Body
 bodyIn s m =
     bodyWith
-    (known (originOf s (infoIn m .parameters .originator)))
+    (known (originOf s (easOrgLeaf (infoIn m))))
     (valueAt s (infoIn m .events .same .at))
     (infoIn m .locations)
     (lasting s m)
@@ -51,7 +52,7 @@ bodyIn s m =
 unfoldable pub alerted : List ℕ → Message → Judged
 alerted s m =
     pick (eventIs s (infoIn m .events .same))
-    (pick (isKnown (originOf s (infoIn m .parameters .originator)))
+    (pick (isKnown (originOf s (easOrgLeaf (infoIn m))))
     (pick (located (infoIn m .locations))
     (pick (eqb (lasting s m) 0)
     (without m 14 false)

@@ -230,14 +230,15 @@ fn alert_of(s: &[u8], m: Message) -> Judged
     let i = a.info;
     let events = i.events;
     let parameters = i.parameters;
+    let originator = parameters.leaf[reads::EAS_ORG];
     let locations = i.locations;
     let expires = i.leaf[reads::EXPIRES];
     let event = event_of(s, events.same);
     if !event.ok {
         return no_header(m, 11, false);
     }
-    let o = origin_of(s, parameters.originator);
-    let Origin::Known(originator) = o else {
+    let o = origin_of(s, originator);
+    let Origin::Known(known) = o else {
         return no_header(m, 12, false);
     };
     if !is_located(locations) {
@@ -252,7 +253,7 @@ fn alert_of(s: &[u8], m: Message) -> Judged
         number: 0,
         field: m.field,
         quiet: false,
-        body: body_with(originator, code, locations, seconds, m.sent),
+        body: body_with(known, code, locations, seconds, m.sent),
         message: m,
     }
 }

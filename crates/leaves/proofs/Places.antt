@@ -15,7 +15,9 @@ use Prim.Native.String.{String}
 use Rattle.markup.specs.Tree.{Forest, nil, text, elem, One, one, none}
 use Rattle.markup.specs.Document.{docAt}
 use Rattle.reads.specs.WorkingLeaves.{noLeaf, found, soundOf, pairOk, noInfo, nothingRead}
-use Rattle.reads.specs.WorkingSteps.{says, isAudio, eventStep, parameterStep, audioStep, english}
+use Rattle.reads.specs.WorkingSteps.{says, isAudio, eventStep, rowsStep, parameterStep, audioStep, english}
+use Rattle.reads.specs.Parameters.{ReadParameter, readParameters, isOf}
+use Rattle.values.specs.Value.{valueAt}
 use Rattle.reads.specs.declared.Leaf.{Leaf}
 use Rattle.reads.specs.declared.Events.{Events}
 use Rattle.reads.specs.declared.Parameters.{Parameters}
@@ -39,10 +41,8 @@ module _ (s : List ℕ) where
   AllIn [] = Unit {0}
   AllIn (l ∷ ls) = In l × AllIn ls
 
-  pub record ParametersIn (x : Parameters) : Type 0 where
-    pub originator : In (x .originator)
-    pub text : In (x .text)
-    pub carry : In (x .carry)
+  abbrev pub ParametersIn : Parameters → Type 0
+  ParametersIn x = AllIn (x .leaf)
 
   abbrev pub EventsIn : Events → Type 0
   EventsIn x = In (x .same)
@@ -64,7 +64,7 @@ module _ (s : List ℕ) where
   nothing-in = record {
     leaf = (omega arith, (omega arith, (omega arith, (omega arith, (omega arith, tt)))));
     events = omega arith;
-    parameters = record { originator = omega arith; text = omega arith; carry = omega arith };
+    parameters = (omega arith, (omega arith, (omega arith, tt)));
     audio = omega arith;
   }
 
@@ -93,15 +93,18 @@ module _ (s : List ℕ) where
       (λ _. either-way EventsIn (says s (name .at) (bytes "SAME")) _ _ (λ _. found-in (x .same) (value .at) h v) (λ _. h))
       (λ _. h)
 
+  rows-in : (name value : Leaf) → In value → (rows : List ReadParameter) (ls : List Leaf) → AllIn ls → AllIn (rowsStep s name value rows ls)
+  unfolding rowsStep
+  rows-in name value v [] ls h = tt
+  rows-in name value v (r ∷ rows) [] h = tt
+  rows-in name value v (r ∷ rows) (l ∷ ls) h = (
+    either-way In (isOf r (valueAt s (name .at)) (valueAt s (value .at))) _ _ (λ _. found-in l (value .at) (h .0) v) (λ _. h .0),
+    rows-in name value v rows ls (h .1),
+  )
+
   parameter-in : (x : Parameters) (name value : Leaf) → In value → ParametersIn x → ParametersIn (parameterStep s x name value)
   unfolding parameterStep
-  parameter-in x name value v h =
-      either-way ParametersIn (pairOk name value) _ _
-      (λ _. either-way ParametersIn (says s (name .at) (bytes "EAS-ORG")) _ _ (λ _. record { originator = found-in (x .originator) (value .at) (h .originator) v; text = h .text; carry = h .carry })
-      (λ _. either-way ParametersIn (says s (name .at) (bytes "EASText")) _ _ (λ _. record { originator = h .originator; text = found-in (x .text) (value .at) (h .text) v; carry = h .carry })
-      (λ _. either-way ParametersIn (says s (name .at) (bytes "EAS-Must-Carry")) _ _ (λ _. record { originator = h .originator; text = h .text; carry = found-in (x .carry) (value .at) (h .carry) v })
-      (λ _. h))))
-      (λ _. record { originator = h .originator; text = h .text; carry = h .carry })
+  parameter-in x name value v h = either-way ParametersIn (pairOk name value) _ _ (λ _. rows-in name value v readParameters (x .leaf) h) (λ _. h)
 
   audio-in : (x : Audio) (mime uri : Leaf) → In uri → AudioIn x → AudioIn (audioStep s x mime uri)
   unfolding audioStep
@@ -144,7 +147,7 @@ module _ (s p : List ℕ) where
     events = fold-keeps s (EventsIn s) (withEvent s p) (λ x e q a. event-in s x (leafIn s p "valueName" (e .holds)) (leafIn s p "value" (e .holds)) (leaf-inside "value" (e .holds) a))
         (named s p "eventCode" t) (named-real "eventCode" t r) (noInfo (length s) .events) (omega arith);
     parameters = fold-keeps s (ParametersIn s) (withParameter s p) (λ x e q a. parameter-in s x (leafIn s p "valueName" (e .holds)) (leafIn s p "value" (e .holds)) (leaf-inside "value" (e .holds) a))
-        (named s p "parameter" t) (named-real "parameter" t r) (noInfo (length s) .parameters) (record { originator = omega arith; text = omega arith; carry = omega arith });
+        (named s p "parameter" t) (named-real "parameter" t r) (noInfo (length s) .parameters) (omega arith, (omega arith, (omega arith, tt)));
     audio = fold-keeps s (AudioIn s) (withResource s p) (λ x e q a. audio-in s x (leafIn s p "mimeType" (e .holds)) (leafIn s p "uri" (e .holds)) (leaf-inside "uri" (e .holds) a))
         (named s p "resource" t) (named-real "resource" t r) (noInfo (length s) .audio) (omega arith);
   }

@@ -3,7 +3,7 @@
 --     Absent, absent-starts, absent-on         the same of one that puts leaves which are absent
 --     Reading, reading-starts, reading-on      the same of one that reads numbers into an array
 --     leaves-absent, numbers-are               what each says of itself, all say together
---     five-leaves                              the leaves of an info, each by its place
+--     five-leaves, parameter-leaves            the leaves of an info and of its parameters, each by its place
 --     info-clears, state-clears                one change directly behind the other, an info and the state are cleared
 use Prim.Native.Nat.{ℕ, zero, suc, _+_, _-_, _*_, _≤_, _<_}
 use mathlib.Core.Path.{_≡_, refl, sym, ap, _∙_}
@@ -16,7 +16,8 @@ use lib.ListN.{length, getD, set, replicate, length-set, length-replicate, getD-
 use lib.Seq.{getD-set-same, getD-set-other}
 use Rattle.reads.specs.declared.Leaf.{Leaf}
 use Rattle.reads.specs.WorkingLeaves.{noLeaf, noInfo, nothingRead}
-use Rattle.lent.specs.WorkingLent.{numberIn, narrowed, keptNumbered, lentLeaf, lentLeaves, lentNumbers, lentInfo, lentState, ButFor, Zeros}
+use Rattle.lent.specs.WorkingLent.{numberIn, narrowed, keptNumbered, lentLeaf, lentLeaves, lentNumbers, infoNumbers, lentInfo, chosenFrom, lentState, ButFor, Zeros}
+use Rattle.reads.specs.Parameters.{parameterCount}
 use Rattle.lent.proofs.Parts.{but-alike, but-nothing, but-join, leaf-as, leaves-as, info-as}
 
 -- ---- numbers are put
@@ -139,10 +140,14 @@ pub five-leaves : (l : List ℕ) (a : ℕ)
 unfolding lentLeaves
 five-leaves l a = rw (add-assoc a 3 3, add-assoc a 6 3, add-assoc a 9 3)
 
+pub parameter-leaves : (l : List ℕ) (a : ℕ) → lentLeaves parameterCount l (a + 1) ≡ lentLeaf l (a + 1) ∷ lentLeaf l (a + 4) ∷ lentLeaf l (a + 7) ∷ []
+unfolding lentLeaves
+parameter-leaves l a = rw (add-assoc a 1 3, add-assoc a 4 3)
+
 -- ---- an info
 
 info-cleared : (n : ℕ) (m : List ℕ) (a : ℕ) → lentLeaves 6 m a ≡ replicate 6 (noLeaf n) → numberIn m (a + 15 + 3) ≡ 0 → numberIn m (a + 19) ≡ n
-    → Zeros m (a + 20) 37 → lentLeaves 3 m (a + 57) ≡ replicate 3 (noLeaf n) → lentInfo m a ≡ noInfo n
+    → Zeros m (a + 20) 37 → lentLeaves parameterCount m (a + 56 + 1) ≡ replicate parameterCount (noLeaf n) → lentInfo m a ≡ noInfo n
 unfolding lentInfo narrowed
 info-cleared n m a e p q z f = rw (
   leaves-absent n 5 m a (λ j h. leaf-absent n 6 m a j e (omega (arith, h))),
@@ -156,18 +161,20 @@ info-cleared n m a e p q z f = rw (
   zero (a + 22 + 2) (omega arith) (omega arith),
   zeros-are m (a + 22 + 3) 31 (λ j h. zero (a + 22 + 3 + j) (omega arith) (omega (arith, h))),
   zero (a + 56) (omega arith) (omega arith),
-  other 0 (a + 56 + 1) (omega arith) (omega arith),
-  other 1 (a + 56 + 4) (omega arith) (omega arith),
-  other 2 (a + 56 + 7) (omega arith) (omega arith),
+  f,
 )
   where
     zero : (b : ℕ) → a + 20 ≤ b → b < a + 57 → numberIn m b ≡ 0
     zero b x y = zero-in m (a + 20) 37 b z x (omega (arith, y))
 
-    other : (j b : ℕ) → j < 3 → b ≡ a + 57 + 3 * j → lentLeaf m b ≡ noLeaf n
-    other j b h x = ap (lentLeaf m) x ∙ leaf-absent n 3 m (a + 57) j f h
-
 -- ---- changes one behind the other
+
+-- how many numbers the leaves of the parameters have, and two infos
+abbrev leafNumbers : ℕ
+leafNumbers = 3 * parameterCount
+
+abbrev infosNumbers : ℕ
+infosNumbers = infoNumbers + infoNumbers
 
 -- from l to m, x is put at a; k zeros from a on; k leaves that are absent
 abbrev Puts : ℕ → List ℕ → List ℕ → ℕ → Type 0
@@ -184,21 +191,21 @@ but-then : (l m o : List ℕ) (a n k : ℕ) → ButFor l m a n → ButFor m o (a
 but-then l m o a n k w v = but-join l m o a n (a + n) k a (n + k) w v (omega arith) (omega arith) (omega arith) (omega arith)
 
 module _ (n : ℕ) {l m o p q r : List ℕ} where
-  pub info-clears : Empties n l m 29 6 → Puts 0 m o 47 → Puts n o p 48 → Blanks p q 49 37 → Empties n q r 86 3
-      → ButFor l r 29 66 × (lentInfo r 29 ≡ noInfo n)
-  info-clears (b0, e0) (b1, e1) (b2, e2) (b3, z) (b4, e4) = (but-then l m r 29 18 48 b0 c1, info-cleared n r 29 leaves fault uri zeros e4)
+  pub info-clears : Empties n l m 29 6 → Puts 0 m o 47 → Puts n o p 48 → Blanks p q 49 37 → Empties n q r 86 parameterCount
+      → ButFor l r 29 infoNumbers × (lentInfo r 29 ≡ noInfo n)
+  info-clears (b0, e0) (b1, e1) (b2, e2) (b3, z) (b4, e4) = (but-then l m r 29 18 (2 + 37 + leafNumbers) b0 c1, info-cleared n r 29 leaves fault uri zeros e4)
     where
-      c3 : ButFor p r 49 46
-      c3 = but-then p q r 49 37 9 b3 b4
+      c3 : ButFor p r 49 (37 + leafNumbers)
+      c3 = but-then p q r 49 37 leafNumbers b3 b4
 
-      c2 : ButFor o r 48 47
-      c2 = but-then o p r 48 1 46 b2 c3
+      c2 : ButFor o r 48 (1 + 37 + leafNumbers)
+      c2 = but-then o p r 48 1 (37 + leafNumbers) b2 c3
 
-      c1 : ButFor m r 47 48
-      c1 = but-then m o r 47 1 47 b1 c2
+      c1 : ButFor m r 47 (2 + 37 + leafNumbers)
+      c1 = but-then m o r 47 1 (1 + 37 + leafNumbers) b1 c2
 
       leaves : lentLeaves 6 r 29 ≡ replicate 6 (noLeaf n)
-      leaves = leaves-as m r 6 29 29 (but-alike m r 47 48 29 18 c1 (inl (omega arith))) ∙ e0
+      leaves = leaves-as m r 6 29 29 (but-alike m r 47 (2 + 37 + leafNumbers) 29 18 c1 (inl (omega arith))) ∙ e0
 
       fault : numberIn r 47 ≡ 0
       fault = c2 .same 47 (inl (omega arith)) ∙ e1
@@ -209,27 +216,27 @@ module _ (n : ℕ) {l m o p q r : List ℕ} where
       zeros : Zeros r 49 37
       zeros j h = b4 .same (49 + j) (inl (omega (arith, h))) ∙ z j h
 
-  pub state-clears : Empties n l m 0 7 → Blanks m o 21 2 → Empties n o p 23 2 → ButFor p q 29 66 × (lentInfo q 29 ≡ noInfo n)
-      → ButFor q r 95 66 × (lentInfo r 95 ≡ lentInfo q 29) → (length r ≡ length l) × (lentState r ≡ nothingRead n)
+  pub state-clears : Empties n l m 0 7 → Blanks m o 21 2 → Empties n o p 23 2 → ButFor p q 29 infoNumbers × (lentInfo q 29 ≡ noInfo n)
+      → ButFor q r chosenFrom infoNumbers × (lentInfo r chosenFrom ≡ lentInfo q 29) → (length r ≡ length l) × (lentState r ≡ nothingRead n)
   unfolding lentState keptNumbered
   state-clears (b0, e0) (b1, z) (b2, e2) (b3, e3) (b4, e4) = (
     c1 .long ∙ b0 .long,
     rw (
-      leaves-as m r 7 0 0 (but-alike m r 21 140 0 21 c1 (inl (omega arith))) ∙ e0,
+      leaves-as m r 7 0 0 (but-alike m r 21 (8 + infosNumbers) 0 21 c1 (inl (omega arith))) ∙ e0,
       c2 .same 21 (inl (omega arith)) ∙ z 0 (omega arith),
       c2 .same 22 (inl (omega arith)) ∙ z 1 (omega arith),
-      leaves-as p r 2 23 23 (but-alike p r 29 132 23 6 c3 (inl (omega arith))) ∙ e2,
+      leaves-as p r 2 23 23 (but-alike p r 29 infosNumbers 23 6 c3 (inl (omega arith))) ∙ e2,
       e4,
-      info-as q r 29 29 (but-alike q r 95 66 29 66 b4 (inl (omega arith))),
+      info-as q r 29 29 (but-alike q r chosenFrom infoNumbers 29 infoNumbers b4 (inl (omega arith))),
       e3,
     ),
   )
     where
-      c3 : ButFor p r 29 132
-      c3 = but-then p q r 29 66 66 b3 b4
+      c3 : ButFor p r 29 infosNumbers
+      c3 = but-then p q r 29 infoNumbers infoNumbers b3 b4
 
-      c2 : ButFor o r 23 138
-      c2 = but-then o p r 23 6 132 b2 c3
+      c2 : ButFor o r 23 (6 + infosNumbers)
+      c2 = but-then o p r 23 6 infosNumbers b2 c3
 
-      c1 : ButFor m r 21 140
-      c1 = but-then m o r 21 2 138 b1 c2
+      c1 : ButFor m r 21 (8 + infosNumbers)
+      c1 = but-then m o r 21 2 (6 + infosNumbers) b1 c2

@@ -10,7 +10,8 @@ use native.Mathlib.Nat.{add-zero}
 use native.Mathlib.Omega.{arith}
 use lib.ListN.{length, set, length-set}
 use lib.Seq.{getD-set-same, getD-set-other}
-use Rattle.lent.specs.WorkingLent.{numberIn, lentLeaf, lentLeaves, lentNumbers, lentEvents, lentAudio, lentLocations, lentParameters, lentInfo, ButFor}
+use Rattle.lent.specs.WorkingLent.{numberIn, lentLeaf, lentLeaves, lentNumbers, lentEvents, lentAudio, lentLocations, parameterNumbers, infoNumbers, lentParameters, lentInfo, ButFor}
+use Rattle.reads.specs.Parameters.{parameterCount}
 
 -- the n numbers from b in m are those from a in l
 abbrev pub Alike : List ℕ → List ℕ → ℕ → ℕ → ℕ → Type 0
@@ -78,22 +79,20 @@ module _ (l m : List ℕ) where
   locations-as a b w =
       rw (number-as a b 34 (omega arith) w, w 1 (omega arith), w 2 (omega arith), numbers-as 31 (a + 3) (b + 3) (within a b 34 3 31 (omega arith) w))
 
-  pub parameters-as : (a b : ℕ) → Alike l m a b 10 → lentParameters m b ≡ lentParameters l a
+  pub parameters-as : (a b : ℕ) → Alike l m a b parameterNumbers → lentParameters m b ≡ lentParameters l a
   parameters-as a b w = rw (
-    number-as a b 10 (omega arith) w,
-    leaf-as (a + 1) (b + 1) (within a b 10 1 3 (omega arith) w),
-    leaf-as (a + 4) (b + 4) (within a b 10 4 3 (omega arith) w),
-    leaf-as (a + 7) (b + 7) (within a b 10 7 3 (omega arith) w),
+    number-as a b parameterNumbers (omega arith) w,
+    leaves-as parameterCount (a + 1) (b + 1) (within a b parameterNumbers 1 (3 * parameterCount) (omega arith) w),
   )
 
-  pub info-as : (a b : ℕ) → Alike l m a b 66 → lentInfo m b ≡ lentInfo l a
+  pub info-as : (a b : ℕ) → Alike l m a b infoNumbers → lentInfo m b ≡ lentInfo l a
   unfolding lentInfo
   info-as a b w = rw (
     leaves-as 5 a b (λ j x. w j (omega (arith, x))),
-    events-as (a + 15) (b + 15) (within a b 66 15 4 (omega arith) w),
-    audio-as (a + 19) (b + 19) (within a b 66 19 3 (omega arith) w),
-    locations-as (a + 22) (b + 22) (within a b 66 22 34 (omega arith) w),
-    parameters-as (a + 56) (b + 56) (within a b 66 56 10 (omega arith) w),
+    events-as (a + 15) (b + 15) (within a b infoNumbers 15 4 (omega arith) w),
+    audio-as (a + 19) (b + 19) (within a b infoNumbers 19 3 (omega arith) w),
+    locations-as (a + 22) (b + 22) (within a b infoNumbers 22 34 (omega arith) w),
+    parameters-as (a + 56) (b + 56) (within a b infoNumbers 56 parameterNumbers (omega arith) w),
   )
 
 -- ---- one number is put

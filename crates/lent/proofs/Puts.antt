@@ -1,6 +1,6 @@
 -- Parts that are put number by number.
 --     three-put                        two numbers and a bit, one behind the other
---     events-put, parameters-put       leaves and bits, one behind the other
+--     events-put                       a leaf and a bit, one behind the other
 --     numbers-put                      one number among several
 --     location-put, location-full      one location more, and none
 use Prim.Native.Nat.{ℕ, zero, suc, _+_, _≤_, _<_}
@@ -18,7 +18,7 @@ use Rattle.reads.specs.declared.Audio.{Audio}
 use Rattle.reads.specs.declared.Parameters.{Parameters}
 use Rattle.reads.specs.declared.Locations.{Locations}
 use Rattle.reads.specs.WorkingSteps.{withLocation}
-use Rattle.lent.specs.WorkingLent.{numberIn, narrowed, isSet, lentLeaf, lentNumbers, lentEvents, lentAudio, lentLocations, lentParameters, ButFor}
+use Rattle.lent.specs.WorkingLent.{numberIn, narrowed, isSet, lentLeaf, lentNumbers, lentEvents, lentAudio, lentLocations, parameterNumbers, lentParameters, ButFor}
 use Rattle.lent.proofs.Parts.{but-alike, but-wider, but-nothing, but-join, leaf-as, numbers-as}
 
 -- m is l with this put at a
@@ -42,7 +42,7 @@ abbrev pub PutAudio : List ℕ → List ℕ → ℕ → Audio → Type 0
 PutAudio l m a e = ButFor l m a 3 × (lentAudio m a ≡ e)
 
 abbrev pub PutParameters : List ℕ → List ℕ → ℕ → Parameters → Type 0
-PutParameters l m a e = ButFor l m a 10 × (lentParameters m a ≡ e)
+PutParameters l m a e = ButFor l m a parameterNumbers × (lentParameters m a ≡ e)
 
 abbrev pub PutLocations : List ℕ → List ℕ → ℕ → Locations → Type 0
 PutLocations l m a e = ButFor l m a 34 × (lentLocations m a ≡ e)
@@ -76,30 +76,6 @@ module _ {l m o : List ℕ} (a : ℕ) (e : Events) (u : PutLeaf l m a (e .same))
   events-put = (
     but-join l m o a 3 (a + 3) 1 a 4 (u .0) (v .0) (omega arith) (omega arith) (omega arith) (omega arith),
     rw (leaf-as m o a a (but-alike m o (a + 3) 1 a 3 (v .0) (inl (omega arith))), u .1, v .1),
-  )
-
-module _ {l m o p q : List ℕ} (a : ℕ) (e : Parameters)
-    (u : PutBit l m a (e .fault)) (v : PutLeaf m o (a + 1) (e .originator))
-    (w : PutLeaf o p (a + 4) (e .text)) (x : PutLeaf p q (a + 7) (e .carry)) where
-  -- the leaves behind the first
-  two-but : ButFor o q (a + 4) 6
-  two-but = but-join o p q (a + 4) 3 (a + 7) 3 (a + 4) 6 (w .0) (x .0) (omega arith) (omega arith) (omega arith) (omega arith)
-
-  three-leaves-but : ButFor m q (a + 1) 9
-  three-leaves-but = but-join m o q (a + 1) 3 (a + 4) 6 (a + 1) 9 (v .0) two-but (omega arith) (omega arith) (omega arith) (omega arith)
-
-  pub parameters-put : PutParameters l q a e
-  parameters-put = (
-    but-join l m q a 1 (a + 1) 9 a 10 (u .0) three-leaves-but (omega arith) (omega arith) (omega arith) (omega arith),
-    rw (
-      three-leaves-but .same a (inl (omega arith)),
-      leaf-as o q (a + 1) (a + 1) (but-alike o q (a + 4) 6 (a + 1) 3 two-but (inl (omega arith))),
-      leaf-as p q (a + 4) (a + 4) (but-alike p q (a + 7) 3 (a + 4) 3 (x .0) (inl (omega arith))),
-      u .1,
-      v .1,
-      w .1,
-      x .1,
-    ),
   )
 
 -- ---- locations

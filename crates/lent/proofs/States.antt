@@ -13,7 +13,7 @@ use Rattle.reads.specs.declared.Audio.{Audio}
 use Rattle.reads.specs.declared.Locations.{Locations}
 use Rattle.reads.specs.declared.Parameters.{Parameters}
 use Rattle.reads.specs.declared.Info.{Info}
-use Rattle.lent.specs.WorkingLent.{numberIn, isSet, keptNumbered, lentLeaves, lentEvents, lentAudio, lentLocations, lentParameters, lentInfo, pairFrom, infoFrom, chosenFrom, lentState, ButFor}
+use Rattle.lent.specs.WorkingLent.{numberIn, isSet, keptNumbered, lentLeaves, lentEvents, lentAudio, lentLocations, parameterNumbers, infoNumbers, lentParameters, lentInfo, pairFrom, infoFrom, chosenFrom, lentState, ButFor}
 use Rattle.lent.proofs.Parts.{but-alike, leaves-as, events-as, audio-as, locations-as, parameters-as, info-as}
 
 -- ---- an info that begins at a
@@ -37,7 +37,7 @@ module _ (l m : List ℕ) (a : ℕ) where
     locations-kept (inr h) = locations-as l m (a + 22) (a + 22) (but-alike l m b k (a + 22) 34 w (inl (omega (arith, h))))
 
     parameters-kept : b + k ≤ a + 56 → lentParameters m (a + 56) ≡ lentParameters l (a + 56)
-    parameters-kept h = parameters-as l m (a + 56) (a + 56) (but-alike l m b k (a + 56) 10 w (inr h))
+    parameters-kept h = parameters-as l m (a + 56) (a + 56) (but-alike l m b k (a + 56) parameterNumbers w (inr h))
 
   pub info-leaves : (b k : ℕ) → a ≤ b → b + k ≤ a + 15 → ButFor l m b k → lentInfo m a ≡ record {
     leaf = lentLeaves 5 m a;
@@ -102,7 +102,7 @@ module _ (l m : List ℕ) (a : ℕ) where
     parameters-kept (a + 22) 34 w (omega arith),
   )
 
-  pub info-parameters : (e : Parameters) → ButFor l m (a + 56) 10 → lentParameters m (a + 56) ≡ e → lentInfo m a ≡ record {
+  pub info-parameters : (e : Parameters) → ButFor l m (a + 56) parameterNumbers → lentParameters m (a + 56) ≡ e → lentInfo m a ≡ record {
     leaf = lentInfo l a .leaf;
     events = lentInfo l a .events;
     audio = lentInfo l a .audio;
@@ -111,10 +111,10 @@ module _ (l m : List ℕ) (a : ℕ) where
   }
   unfolding lentInfo
   info-parameters e w is = rw (
-    leaves-kept (a + 56) 10 w (inr (omega arith)),
-    events-kept (a + 56) 10 w (inr (omega arith)),
-    audio-kept (a + 56) 10 w (inr (omega arith)),
-    locations-kept (a + 56) 10 w (inr (omega arith)),
+    leaves-kept (a + 56) parameterNumbers w (inr (omega arith)),
+    events-kept (a + 56) parameterNumbers w (inr (omega arith)),
+    audio-kept (a + 56) parameterNumbers w (inr (omega arith)),
+    locations-kept (a + 56) parameterNumbers w (inr (omega arith)),
     is,
   )
 
@@ -130,11 +130,11 @@ module _ (l m : List ℕ) where
     pair-kept (inr h) = leaves-as l m 2 pairFrom pairFrom (but-alike l m b k pairFrom 6 w (inl h))
 
     info-kept : b + k ≤ infoFrom ⊎ chosenFrom ≤ b → lentInfo m infoFrom ≡ lentInfo l infoFrom
-    info-kept (inl h) = info-as l m infoFrom infoFrom (but-alike l m b k infoFrom 66 w (inr h))
-    info-kept (inr h) = info-as l m infoFrom infoFrom (but-alike l m b k infoFrom 66 w (inl h))
+    info-kept (inl h) = info-as l m infoFrom infoFrom (but-alike l m b k infoFrom infoNumbers w (inr h))
+    info-kept (inr h) = info-as l m infoFrom infoFrom (but-alike l m b k infoFrom infoNumbers w (inl h))
 
     chosen-kept : b + k ≤ chosenFrom → lentInfo m chosenFrom ≡ lentInfo l chosenFrom
-    chosen-kept h = info-as l m chosenFrom chosenFrom (but-alike l m b k chosenFrom 66 w (inr h))
+    chosen-kept h = info-as l m chosenFrom chosenFrom (but-alike l m b k chosenFrom infoNumbers w (inr h))
 
   pub state-leaves : (b k : ℕ) → b + k ≤ 21 → ButFor l m b k → lentState m ≡ record {
     alert = record { leaf = lentLeaves 7 m 0; kept = lentState l .alert .kept; fault = lentState l .alert .fault; info = lentState l .alert .info };
@@ -210,17 +210,17 @@ module _ (l m : List ℕ) where
     chosen-kept b k w to,
   )
 
-  pub state-chosen : (i : Info) → ButFor l m chosenFrom 66 → lentInfo m chosenFrom ≡ i → lentState m ≡ record {
+  pub state-chosen : (i : Info) → ButFor l m chosenFrom infoNumbers → lentInfo m chosenFrom ≡ i → lentState m ≡ record {
     alert = record { leaf = lentState l .alert .leaf; kept = lentState l .alert .kept; fault = lentState l .alert .fault; info = i };
     info = lentState l .info;
     pair = lentState l .pair;
   }
   unfolding lentState
   state-chosen i w is = rw (
-    alert-leaves-kept chosenFrom 66 w (omega arith),
+    alert-leaves-kept chosenFrom infoNumbers w (omega arith),
     w .same 21 (inl (omega arith)),
     w .same 22 (inl (omega arith)),
-    pair-kept chosenFrom 66 w (inr (omega arith)),
-    info-kept chosenFrom 66 w (inr (omega arith)),
+    pair-kept chosenFrom infoNumbers w (inr (omega arith)),
+    info-kept chosenFrom infoNumbers w (inr (omega arith)),
     is,
   )

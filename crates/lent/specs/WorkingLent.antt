@@ -1,6 +1,6 @@
 -- The state of the pass as numbers that are lent, one behind the other: from 0 the alert's seven leaves; 21 which info is kept; 22 the alert's fault; from 23 the
--- two leaves of a pair; from 29 the info that is being read; from 95 the info that is kept. Every list of numbers is some state: only what it says is defined.
-use Prim.Native.Nat.{ℕ, zero, suc, _+_, _<_, _≤_}
+-- two leaves of a pair; from 29 the info that is being read; behind it the info that is kept. Every list of numbers is some state: only what it says is defined.
+use Prim.Native.Nat.{ℕ, zero, suc, _+_, _*_, _<_, _≤_}
 use mathlib.Core.Path.{_≡_}
 use mathlib.Core.Logic.{_⊎_}
 use mathlib.Core.Bool.{Bool, not}
@@ -17,6 +17,7 @@ use Rattle.reads.specs.declared.Info.{Info}
 use Rattle.reads.specs.declared.Kept.{Kept}
 use Rattle.reads.specs.declared.Kept.the-variants.{Nothing, First, Selected}
 use Rattle.reads.specs.declared.State.{State}
+use Rattle.reads.specs.Parameters.{parameterCount}
 
 -- ---- single numbers
 
@@ -68,16 +69,18 @@ lentLocations l a = record {
   list = lentNumbers 31 l (a + 3);
 }
 
--- the parameters, in ten
-abbrev pub lentParameters : List ℕ → ℕ → Parameters
-lentParameters l a = record {
-  fault = isSet (numberIn l a);
-  originator = lentLeaf l (a + 1);
-  text = lentLeaf l (a + 4);
-  carry = lentLeaf l (a + 7);
-}
+-- how many numbers the parameters have, and an info
+abbrev pub parameterNumbers : ℕ
+parameterNumbers = 1 + 3 * parameterCount
 
--- an info, in 66; what may grow stands last
+abbrev pub infoNumbers : ℕ
+infoNumbers = 56 + parameterNumbers
+
+-- the parameters: their fault, and a leaf for each row of their table
+abbrev pub lentParameters : List ℕ → ℕ → Parameters
+lentParameters l a = record { fault = isSet (numberIn l a); leaf = lentLeaves parameterCount l (a + 1) }
+
+-- an info; what may grow stands last
 unfoldable pub lentInfo : List ℕ → ℕ → Info
 lentInfo l a = record {
   leaf = lentLeaves 5 l a;
@@ -105,11 +108,14 @@ infoFrom = 29
 abbrev pub locationsFrom : ℕ
 locationsFrom = 51
 
+abbrev pub parametersFrom : ℕ
+parametersFrom = 85
+
 abbrev pub chosenFrom : ℕ
-chosenFrom = 95
+chosenFrom = infoFrom + infoNumbers
 
 abbrev pub lentSize : ℕ
-lentSize = 161
+lentSize = chosenFrom + infoNumbers
 
 unfoldable pub lentState : List ℕ → State
 lentState l = record {

@@ -13,7 +13,7 @@ ghost use Prim.Native.Nat.{_+_, _*_, _≤_};
 ghost use lib.ListN.{length, replicate};
 ghost use Rattle.reads.specs.WorkingLeaves.{noLeaf, noInfo, nothingRead};
 ghost use Rattle.reads.specs.WorkingSteps.{withLocation};
-ghost use Rattle.lent.specs.WorkingLent.{numberIn, narrowed, isSet, keptNumbered, lentLeaf, lentLeaves, lentNumbers, lentEvents, lentAudio, lentLocations, lentParameters, lentInfo, keptAt, pairFrom, infoFrom, chosenFrom, lentSize, lentState, ButFor, Zeros};
+ghost use Rattle.lent.specs.WorkingLent.{numberIn, narrowed, isSet, keptNumbered, lentLeaf, lentLeaves, lentNumbers, lentEvents, lentAudio, lentLocations, parameterNumbers, infoNumbers, lentParameters, lentInfo, keptAt, pairFrom, infoFrom, chosenFrom, lentSize, lentState, ButFor, Zeros};
 
 // Which info is kept.
 pub const KEPT: usize = 21;
@@ -35,11 +35,14 @@ pub const LOCATIONS: usize = 51;
 
 pub const PARAMETERS: usize = 85;
 
+// How many numbers an info has: the last of them are the fault of the parameters and their leaves.
+const INFO_SIZE: usize = 57 + 3 * reads::PARAMETERS;
+
 // The info that is kept.
-pub const CHOSEN: usize = 95;
+pub const CHOSEN: usize = INFO + INFO_SIZE;
 
 // How many numbers a state has.
-pub const SIZE: usize = 161;
+pub const SIZE: usize = CHOSEN + INFO_SIZE;
 
 // ---- single numbers
 
@@ -176,30 +179,14 @@ pub fn put_audio(st: &mut [usize], a: usize, e: Audio)
     put_three(st, a, e.uri, e.number, e.fault);
 }
 
-pub fn parameters_at(st: &[usize], a: usize) -> Parameters
-    requires { ⌜ a + 10 ≤ length (now st) ⌝ }
+fn parameters_at(st: &[usize], a: usize) -> Parameters
+    requires { ⌜ a + parameterNumbers ≤ length (now st) ⌝ }
     ensures { λ r. ⌜ r ≡ lentParameters (now (st .entry)) a ⌝ }
 {
     Parameters {
         fault: st[a] != 0,
-        originator: leaf_at(st, a + 1),
-        text: leaf_at(st, a + 4),
-        carry: leaf_at(st, a + 7),
+        leaf: [leaf_at(st, a + 1), leaf_at(st, a + 4), leaf_at(st, a + 7)],
     }
-}
-
-pub fn put_parameters(st: &mut [usize], a: usize, e: Parameters)
-    requires { ⌜ a + 10 ≤ length (now st) ⌝ }
-    ensures { λ _. ⌜ ButFor (now (st .entry)) (now (st .exit)) a 10 ⌝ }
-    ensures { λ _. ⌜ lentParameters (now (st .exit)) a ≡ e ⌝ }
-{
-    let originator = e.originator;
-    let text = e.text;
-    let carry = e.carry;
-    put_bit(st, a, e.fault);
-    put_leaf(st, a + 1, originator);
-    put_leaf(st, a + 4, text);
-    put_leaf(st, a + 7, carry);
 }
 
 // One location more behind those that stand from `a` on; with 31 of them, none.
@@ -257,7 +244,7 @@ pub fn kept_at(st: &[usize]) -> Kept
 }
 
 fn info_at(st: &[usize], a: usize) -> Info
-    requires { ⌜ a + 66 ≤ length (now st) ⌝ }
+    requires { ⌜ a + infoNumbers ≤ length (now st) ⌝ }
     ensures { λ r. ⌜ r ≡ lentInfo (now (st .entry)) a ⌝ }
 {
     Info {
@@ -279,14 +266,14 @@ fn info_at(st: &[usize], a: usize) -> Info
 // far as the fault of the parameters, and their leaves.
 pub fn clear_info(st: &mut [usize], n: usize)
     requires { ⌜ length (now st) ≡ lentSize ⌝ }
-    ensures { λ _. ⌜ ButFor (now (st .entry)) (now (st .exit)) infoFrom 66 ⌝ }
+    ensures { λ _. ⌜ ButFor (now (st .entry)) (now (st .exit)) infoFrom infoNumbers ⌝ }
     ensures { λ _. ⌜ lentInfo (now (st .exit)) infoFrom ≡ noInfo n ⌝ }
 {
     put_absent(st, INFO, 6, n);
     put_number(st, EVENTS + 3, 0);
     put_number(st, AUDIO, n);
     put_zeros(st, AUDIO + 1, 37);
-    put_absent(st, PARAMETERS + 1, 3, n);
+    put_absent(st, PARAMETERS + 1, reads::PARAMETERS, n);
 }
 
 fn put_zeros(st: &mut [usize], a: usize, k: usize)
@@ -304,11 +291,11 @@ fn put_zeros(st: &mut [usize], a: usize, k: usize)
 // Copies the info that has been read to the place of the one that is kept.
 pub fn keep_info(st: &mut [usize])
     requires { ⌜ length (now st) ≡ lentSize ⌝ }
-    ensures { λ _. ⌜ ButFor (now (st .entry)) (now (st .exit)) chosenFrom 66 ⌝ }
+    ensures { λ _. ⌜ ButFor (now (st .entry)) (now (st .exit)) chosenFrom infoNumbers ⌝ }
     ensures { λ _. ⌜ lentInfo (now (st .exit)) chosenFrom ≡ lentInfo (now (st .entry)) infoFrom ⌝ }
 {
     let mut k: usize = 0;
-    while k < 66 {
+    while k < INFO_SIZE {
         let x = st[INFO + k];
         put_number(st, CHOSEN + k, x);
         k += 1;

@@ -1,3 +1,4 @@
 pub mod WorkingLeaves
 pub mod Names
+pub mod Parameters
 pub mod WorkingSteps

@@ -10,6 +10,7 @@ use Rattle.reads.specs.declared.Info.{Info}
 use Rattle.reads.specs.declared.Alert.{Alert}
 use Rattle.reads.specs.declared.Kept.the-variants.{Nothing}
 use Rattle.reads.specs.declared.State.{State}
+use Rattle.reads.specs.Parameters.{parameterCount}
 
 -- a leaf that is absent from a message of n bytes: its value, at the message's end, is empty
 abbrev pub noLeaf : ℕ → Leaf
@@ -40,7 +41,7 @@ abbrev pub noInfo : ℕ → Info
 noInfo n = record {
   leaf = noLeaf n ∷ noLeaf n ∷ noLeaf n ∷ noLeaf n ∷ noLeaf n ∷ [];
   events = record { same = noLeaf n; fault = false };
-  parameters = record { originator = noLeaf n; text = noLeaf n; carry = noLeaf n; fault = false };
+  parameters = record { leaf = replicate parameterCount (noLeaf n); fault = false };
   locations = record { count = 0; list = replicate 31 0; bad = false; fault = false };
   audio = record { number = 0; uri = n; fault = false };
 }
@@ -97,3 +98,14 @@ descriptionLeaf i = getD (i .leaf) 3 (noLeaf 0)
 
 abbrev pub instructionLeaf : Info → Leaf
 instructionLeaf i = getD (i .leaf) 4 (noLeaf 0)
+
+-- ---- the leaves of an info's parameters by name
+
+abbrev pub easOrgLeaf : Info → Leaf
+easOrgLeaf i = getD (i .parameters .leaf) 0 (noLeaf 0)
+
+abbrev pub easTextLeaf : Info → Leaf
+easTextLeaf i = getD (i .parameters .leaf) 1 (noLeaf 0)
+
+abbrev pub mustCarryLeaf : Info → Leaf
+mustCarryLeaf i = getD (i .parameters .leaf) 2 (noLeaf 0)

@@ -1,7 +1,7 @@
 -- What an eventCode, a parameter, a geocode, a resource and an info add to what has been read. n is a place, whose value is valueAt s n.
-use Prim.Native.Nat.{ℕ, _+_}
+use Prim.Native.Nat.{ℕ, suc, _+_}
 use mathlib.Core.Bool.{Bool, true, false, _&&_, _||_, not}
-use mathlib.Core.List.{List, [], map}
+use mathlib.Core.List.{List, [], _∷_, map}
 use lib.ListN.{length, set}
 use lib.Dec.{eqb, leb}
 use Rattle.octets.specs.Bytes.{pick, between, same}
@@ -19,6 +19,7 @@ use Rattle.reads.specs.declared.Info.{Info}
 use Rattle.reads.specs.declared.Alert.{Alert}
 use Rattle.reads.specs.declared.Kept.{Kept}
 use Rattle.reads.specs.declared.Kept.the-variants.{Nothing, First, Selected}
+use Rattle.reads.specs.Parameters.{ReadParameter, readParameters, isOf}
 use Rattle.reads.specs.WorkingLeaves.{found, soundOf, pairOk, languageLeaf}
 
 -- the value at n is this text
@@ -32,18 +33,26 @@ eventStep s e name value =
     (pick (says s (name .at) (bytes "SAME")) (record { same = found (e .same) (value .at); fault = e .fault }) e)
     (record { same = e .same; fault = true })
 
--- a parameter: EAS-ORG, EASText, EAS-Must-Carry
+-- one parameter, by its name and its value, adds to the leaf of a row that it is one of
+abbrev pub rowStep : List ℕ → Leaf → Leaf → ReadParameter → Leaf → Leaf
+rowStep s name value r l = pick (isOf r (valueAt s (name .at)) (valueAt s (value .at))) (found l (value .at)) l
+
+-- of each row
+unfoldable pub rowsStep : List ℕ → Leaf → Leaf → List ReadParameter → List Leaf → List Leaf
+rowsStep s name value [] ls = []
+rowsStep s name value (r ∷ rs) [] = []
+rowsStep s name value (r ∷ rs) (l ∷ ls) = rowStep s name value r l ∷ rowsStep s name value rs ls
+
 unfoldable pub parameterStep : List ℕ → Parameters → Leaf → Leaf → Parameters
 parameterStep s e name value =
     pick (pairOk name value)
-    (pick (says s (name .at) (bytes "EAS-ORG"))
-    (record { originator = found (e .originator) (value .at); text = e .text; carry = e .carry; fault = e .fault })
-    (pick (says s (name .at) (bytes "EASText"))
-    (record { originator = e .originator; text = found (e .text) (value .at); carry = e .carry; fault = e .fault })
-    (pick (says s (name .at) (bytes "EAS-Must-Carry"))
-    (record { originator = e .originator; text = e .text; carry = found (e .carry) (value .at); fault = e .fault })
-    e)))
-    (record { originator = e .originator; text = e .text; carry = e .carry; fault = true })
+    (record { leaf = rowsStep s name value readParameters (e .leaf); fault = e .fault })
+    (record { leaf = e .leaf; fault = true })
+
+-- the place of the first row that a parameter of the name w and the value v is one of, counted from 0; how many rows there are where it is of none
+unfoldable pub rowOf : List ReadParameter → List ℕ → List ℕ → ℕ
+rowOf [] w v = 0
+rowOf (r ∷ rs) w v = pick (isOf r w v) 0 (suc (rowOf rs w v))
 
 -- the first 31 in message order are placed, repeats kept
 unfoldable pub withLocation : Locations → ℕ → Locations

@@ -4,8 +4,10 @@ ghost use mathlib.Core.Bool.{_||_};
 ghost use Prim.Native.Nat.{_≤_};
 ghost use lib.ListN.{length};
 ghost use Rattle.reads.specs.WorkingLeaves.{noLeaf, marked, found, soundOf, onlyOf, pairOk, noInfo, nothingRead};
+ghost use Rattle.values.specs.Value.{valueAt};
+ghost use Rattle.reads.specs.Parameters.{readParameters};
 ghost use Rattle.reads.specs.Names.{localAt, alertContext, infoContext, laterContext, pairContext, resourceContext, areaContext, contextOf};
-ghost use Rattle.reads.specs.WorkingSteps.{eventStep, parameterStep, audioOf, audioStep, english, isNothing};
+ghost use Rattle.reads.specs.WorkingSteps.{eventStep, rowOf, audioOf, audioStep, english, isNothing};
 
 // A leaf: where the value of the first begins, how often it stands (0, 1, and 2 for more), and whether one of them holds an element.
 pub struct Leaf {
@@ -20,11 +22,18 @@ pub struct Events {
     pub fault: bool,
 }
 
-// The parameters: those named EAS-ORG, EASText and EAS-Must-Carry; and whether one is at fault.
+// The parameters that are read, by their places in the table of them, and how many there are.
+pub const EAS_ORG: usize = 0;
+
+pub const EAS_TEXT: usize = 1;
+
+pub const MUST_CARRY: usize = 2;
+
+pub const PARAMETERS: usize = 3;
+
+// The parameters that are read; and whether one is at fault.
 pub struct Parameters {
-    pub originator: Leaf,
-    pub text: Leaf,
-    pub carry: Leaf,
+    pub leaf: [Leaf; PARAMETERS],
     pub fault: bool,
 }
 
@@ -140,9 +149,7 @@ pub fn no_info(n: usize) -> Info
             fault: false,
         },
         parameters: Parameters {
-            originator: l,
-            text: l,
-            carry: l,
+            leaf: [l; PARAMETERS],
             fault: false,
         },
         locations: Locations {
@@ -363,7 +370,7 @@ pub fn context_of(s: &[u8], p: &[u8], from: usize, to: usize, c: Context, kept: 
     }
 }
 
-// ---- what an eventCode, a parameter and a resource add, by their two leaves
+// ---- what an eventCode and a resource add, by their two leaves; which parameter one is
 
 pub fn event_step(s: &[u8], e: Events, name: Leaf, value: Leaf) -> Events
     ensures { λ r. ⌜ r ≡ eventStep (now (s .entry)) e name value ⌝ }
@@ -384,47 +391,11 @@ pub fn event_step(s: &[u8], e: Events, name: Leaf, value: Leaf) -> Events
     e
 }
 
-pub fn parameter_step(s: &[u8], e: Parameters, name: Leaf, value: Leaf) -> Parameters
-    ensures { λ r. ⌜ r ≡ parameterStep (now (s .entry)) e name value ⌝ }
+// The place of the parameter in the table of those that are read, by its name and its value; behind the table where it is none of them.
+pub fn parameter_row(s: &[u8], name: usize, value: usize) -> usize
+    ensures { λ r. ⌜ r ≡ rowOf readParameters (valueAt (now (s .entry)) name) (valueAt (now (s .entry)) value) ⌝ }
 {
-    let originator = e.originator;
-    let text = e.text;
-    let carry = e.carry;
-    let at = name.at;
-    if !is_pair(name, value) {
-        return Parameters {
-            originator: originator,
-            text: text,
-            carry: carry,
-            fault: true,
-        };
-    }
-    let k = words::which_value(s, at, b"\x07\x07\x0e", b"EAS-ORGEASTextEAS-Must-Carry");
-    if k == 0 {
-        return Parameters {
-            originator: find(originator, value.at),
-            text: text,
-            carry: carry,
-            fault: e.fault,
-        };
-    }
-    if k == 1 {
-        return Parameters {
-            originator: originator,
-            text: find(text, value.at),
-            carry: carry,
-            fault: e.fault,
-        };
-    }
-    if k == 2 {
-        return Parameters {
-            originator: originator,
-            text: text,
-            carry: find(carry, value.at),
-            fault: e.fault,
-        };
-    }
-    e
+    words::which_value(s, name, b"\x07\x07\x0e", b"EAS-ORGEASTextEAS-Must-Carry")
 }
 
 // The audio number of a mimeType, and 0 of any other.

@@ -12,7 +12,8 @@ use Rattle.octets.proofs.Tests.{every-left, every-right, every-first}
 use Rattle.gather.specs.Read.{Element}
 use Rattle.leaves.proofs.Reals.{Real, AllReal}
 use Rattle.leaves.proofs.Places.{Reals}
-use Rattle.told.specs.Values.{passing, is, Pair, valuesNamed}
+use Rattle.told.specs.Values.{passing, Pair, valuesUnder}
+use Rattle.reads.specs.Parameters.{ReadParameter, isOf}
 
 -- ---- one more
 
@@ -35,11 +36,11 @@ passing-last {A} f (y ∷ xs) x =
     ∙ kept-append (f y) y (passing f xs) (pick (f x) (x ∷ []) [])
 
 -- the values of a name
-pub values-last : (w : String) (xs : List Pair) (x : Pair) → valuesNamed w (xs ++ (x ∷ [])) ≡ valuesNamed w xs ++ pick (is w (x .name)) (x .value ∷ []) []
-values-last w [] x = refl
-values-last w (y ∷ xs) x =
-    ap (λ (zs : List (List ℕ)). pick (is w (y .name)) (y .value ∷ zs) zs) (values-last w xs x)
-    ∙ kept-append (is w (y .name)) (y .value) (valuesNamed w xs) (pick (is w (x .name)) (x .value ∷ []) [])
+pub values-last : (r : ReadParameter) (xs : List Pair) (x : Pair) → valuesUnder r (xs ++ (x ∷ [])) ≡ valuesUnder r xs ++ pick (isOf r (x .name) (x .value)) (x .value ∷ []) []
+values-last r [] x = refl
+values-last r (y ∷ xs) x =
+    ap (λ (zs : List (List ℕ)). pick (isOf r (y .name) (y .value)) (y .value ∷ zs) zs) (values-last r xs x)
+    ∙ kept-append (isOf r (y .name) (y .value)) (y .value) (valuesUnder r xs) (pick (isOf r (x .name) (x .value)) (x .value ∷ []) [])
 
 -- what is seen of a choice
 pub pick-of : {A B : Type 0} (f : A → B) (b : Bool) (x y : A) → f (pick b x y) ≡ pick b (f x) (f y)

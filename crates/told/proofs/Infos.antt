@@ -2,23 +2,24 @@
 --     events-tell, parameters-tell                        the values of each name that is read
 --     audio-tells                                         the audio choice
 --     events-fault, parameters-fault, resources-fault     one of them at fault
-use Prim.Native.Nat.{ℕ, _+_, min}
+use Prim.Native.Nat.{ℕ, _+_, _<_, min}
 use Prim.Native.String.{String}
 use mathlib.Core.Path.{_≡_, refl, sym, ap, ap₂, _∙_}
 use mathlib.Core.Bool.{Bool, true, false, _&&_, not}
 use mathlib.Core.List.{List, [], _∷_, _++_, map, map-append, append-nil}
 use native.Mathlib.Omega.{arith}
-use lib.ListN.{length, length-append}
+use lib.ListN.{length, getD, length-append, getD-replicate}
 use lib.Dec.{eqb}
 use borrow.Author.Tests.{not-true}
-use Rattle.octets.specs.Bytes.{pick, every, same}
+use Rattle.octets.specs.Bytes.{pick, every}
 use Rattle.octets.specs.Text.{bytes}
 use Rattle.octets.proofs.Tests.{and-left, either-way}
-use Rattle.octets.proofs.Sames.{same-is}
 use Rattle.markup.specs.Tree.{Forest}
 use Rattle.values.specs.Value.{valueAt}
 use Rattle.values.proofs.Steps.{value-past}
+use Rattle.reads.specs.Parameters.{ReadParameter, exactly, readParameters, parameterCount, isOf}
 use Rattle.reads.specs.WorkingLeaves.{noLeaf, found, soundOf, noInfo}
+use Rattle.reads.proofs.ParameterRows.{row-step, rows-long}
 use Rattle.reads.specs.WorkingSteps.{says, eventStep, parameterStep, audioOf, isAudio, audioStep}
 use Rattle.reads.specs.declared.Leaf.{Leaf}
 use Rattle.reads.specs.declared.Events.{Events}
@@ -28,7 +29,7 @@ use Rattle.gather.specs.Read.{Element, named}
 use Rattle.gather.specs.WorkingRead.{leafIn, withEvent, withParameter, withResource, infoOf}
 use Rattle.leaves.proofs.Reals.{AllReal}
 use Rattle.leaves.proofs.Places.{named-real}
-use Rattle.told.specs.Values.{isNone, passing, firstValue, is, Pair, pairOf, eventCodes, parameters, valuesNamed, pairSound, resourceSound}
+use Rattle.told.specs.Values.{isNone, passing, firstValue, is, Pair, pairOf, eventCodes, parameters, valuesUnder, valuesNamed, pairSound, resourceSound}
 use Rattle.told.specs.Values.{audioNumber, suitable, Choice, choiceOf, audioIn}
 use Rattle.told.proofs.Folds.{passing-last, values-last, pick-of, step-fault, fold-fault, fold-sound}
 use Rattle.told.proofs.Leaves.{found-count, found-value, leaf-sound, leaf-value, pair-sound}
@@ -43,13 +44,13 @@ pub record FoundTells (s : List ℕ) (l : Leaf) (vs : List (List ℕ)) : Type 0 
 none-found : (s : List ℕ) → FoundTells s (noLeaf (length s)) []
 none-found s = record { count = refl; value = value-past s (length s) (omega arith) }
 
--- one pair more, its name at i and its value at j: found where it has the name
-one-found : (s : List ℕ) (w : String) (l : Leaf) (xs : List Pair) (x : Pair) (i j : ℕ) → valueAt s i ≡ x .name → valueAt s j ≡ x .value
-    → FoundTells s l (valuesNamed w xs) → FoundTells s (pick (says s i (bytes w)) (found l j) l) (valuesNamed w (xs ++ (x ∷ [])))
-one-found s w l xs x i j n v h = rw (n, values-last w xs x) (go (is w (x .name)))
+-- one pair more, its name at i and its value at j: found where it is one of the row's
+one-found : (s : List ℕ) (r : ReadParameter) (l : Leaf) (xs : List Pair) (x : Pair) (i j : ℕ) → valueAt s i ≡ x .name → valueAt s j ≡ x .value
+    → FoundTells s l (valuesUnder r xs) → FoundTells s (pick (isOf r (valueAt s i) (valueAt s j)) (found l j) l) (valuesUnder r (xs ++ (x ∷ [])))
+one-found s r l xs x i j n v h = rw (n, v, values-last r xs x) (go (isOf r (x .name) (x .value)))
   where
     vs : List (List ℕ)
-    vs = valuesNamed w xs
+    vs = valuesUnder r xs
 
     one-more : length (vs ++ (x .value ∷ [])) ≡ length vs + 1
     one-more = length-append vs (x .value ∷ [])
@@ -60,10 +61,6 @@ one-found s w l xs x i j n v h = rw (n, values-last w xs x) (go (is w (x .name))
       value = found-value s l j vs (x .value) (h .count) (h .value) v;
     }
     go false = rw (append-nil vs) h
-
--- what is one text is no other
-one-text : (v w x : List ℕ) → same w x ≡ false → same v w ≡ true → same v x ≡ false
-one-text v w x n h = ap (λ (y : List ℕ). same y x) (same-is v w h) ∙ n
 
 module _ (s p : List ℕ) where
   -- a valueName with its value
@@ -81,12 +78,12 @@ module _ (s p : List ℕ) where
   abbrev pub names : Element → String → Bool
   names e w = says s (nameFrom e) (bytes w)
 
-  found-tells : (w : String) (l : Leaf) (ds : List Element) (e : Element) → AllReal s (e .holds) → FoundTells s l (valuesNamed w (map pair ds))
-      → FoundTells s (pick (names e w) (found l (valueFrom e)) l) (valuesNamed w (map pair (ds ++ (e ∷ []))))
-  found-tells w l ds e a h =
+  found-tells : (r : ReadParameter) (l : Leaf) (ds : List Element) (e : Element) → AllReal s (e .holds) → FoundTells s l (valuesUnder r (map pair ds))
+      → FoundTells s (pick (isOf r (valueAt s (nameFrom e)) (valueAt s (valueFrom e))) (found l (valueFrom e)) l) (valuesUnder r (map pair (ds ++ (e ∷ []))))
+  found-tells r l ds e a h =
       let n = leaf-value s p "valueName" (e .holds) a in
       let v = leaf-value s p "value" (e .holds) a in
-      rw (map-append pair ds (e ∷ [])) (one-found s w l (map pair ds) (pair e) (nameFrom e) (valueFrom e) n v h)
+      rw (map-append pair ds (e ∷ [])) (one-found s r l (map pair ds) (pair e) (nameFrom e) (valueFrom e) n v h)
 
   -- ---- eventCode
 
@@ -113,65 +110,38 @@ module _ (s p : List ℕ) where
   unfolding infoOf
   events-tell t r o =
       fold-sound s (λ (x : Events) (ds : List Element). FoundTells s (x .same) (valuesNamed "SAME" (map pair ds))) (withEvent s p) (pairSound s p)
-      (λ x ds e a o h. rw (event-same x e a o) (found-tells "SAME" (x .same) ds e a h))
+      (λ x ds e a o h. rw (event-same x e a o) (found-tells (exactly "SAME") (x .same) ds e a h))
       (named s p "eventCode" t) (named-real s p "eventCode" t r) o (noInfo (length s) .events) (none-found s)
 
 -- ---- parameter
 
--- EAS-ORG, EASText and EAS-Must-Carry among these pairs
+-- the leaf of each row, and its values among these pairs
 pub record ParametersTell (s : List ℕ) (x : Parameters) (xs : List Pair) : Type 0 where
-  pub originator : FoundTells s (x .originator) (valuesNamed "EAS-ORG" xs)
-  pub text : FoundTells s (x .text) (valuesNamed "EASText" xs)
-  pub carry : FoundTells s (x .carry) (valuesNamed "EAS-Must-Carry" xs)
+  pub all : length (x .leaf) ≡ parameterCount
+  pub each : (k : ℕ) → k < parameterCount → FoundTells s (getD (x .leaf) k (noLeaf 0)) (valuesUnder (getD readParameters k (exactly "")) xs)
 
--- x with one more found at i, by the first of three tests that holds
-abbrev byFirst : Parameters → ℕ → Bool → Bool → Bool → Parameters
-byFirst x i a b c =
-    pick a (record { originator = found (x .originator) i; text = x .text; carry = x .carry; fault = x .fault })
-    (pick b (record { originator = x .originator; text = found (x .text) i; carry = x .carry; fault = x .fault })
-    (pick c (record { originator = x .originator; text = x .text; carry = found (x .carry) i; fault = x .fault })
-    x))
-
--- y is x with one more found at i where its test holds
-record ByEach (x y : Parameters) (i : ℕ) (a b c : Bool) : Type 0 where
-  pub originator : y .originator ≡ pick a (found (x .originator) i) (x .originator)
-  pub text : y .text ≡ pick b (found (x .text) i) (x .text)
-  pub carry : y .carry ≡ pick c (found (x .carry) i) (x .carry)
-  pub fault : y .fault ≡ x .fault
-
--- where one test at most holds, that is the same
-first-each : (x : Parameters) (i : ℕ) (a b c : Bool) → (a ≡ true → b ≡ false) → (a ≡ true → c ≡ false) → (b ≡ true → c ≡ false)
-    → ByEach x (byFirst x i a b c) i a b c
-first-each x i true b c f g k = record { originator = refl; text = rw (f refl); carry = rw (g refl); fault = refl }
-first-each x i false true c f g k = record { originator = refl; text = refl; carry = rw (k refl); fault = refl }
-first-each x i false false true f g k = record { originator = refl; text = refl; carry = refl; fault = refl }
-first-each x i false false false f g k = record { originator = refl; text = refl; carry = refl; fault = refl }
+none-tell : (s : List ℕ) → ParametersTell s (noInfo (length s) .parameters) []
+none-tell s = record {
+  all = refl;
+  each = λ k q. rw (getD-replicate parameterCount k (noLeaf (length s)) (noLeaf 0) q) (none-found s);
+}
 
 module _ (s p : List ℕ) where
-  by-each : (x : Parameters) (e : Element) → let test = names s p e in
-      ByEach x (byFirst x (valueFrom s p e) (test "EAS-ORG") (test "EASText") (test "EAS-Must-Carry"))
-      (valueFrom s p e) (test "EAS-ORG") (test "EASText") (test "EAS-Must-Carry")
-  unfolding same bytes
-  by-each x e =
-      let v = valueAt s (nameFrom s p e) in
-      first-each x (valueFrom s p e) (same v (bytes "EAS-ORG")) (same v (bytes "EASText")) (same v (bytes "EAS-Must-Carry"))
-      (one-text v (bytes "EAS-ORG") (bytes "EASText") refl)
-      (one-text v (bytes "EAS-ORG") (bytes "EAS-Must-Carry") refl)
-      (one-text v (bytes "EASText") (bytes "EAS-Must-Carry") refl)
-
   parameter-fault : (x : Parameters) (e : Element) → AllReal s (e .holds) → withParameter s p x e .fault ≡ pick (pairSound s p e) (x .fault) true
   unfolding parameterStep
-  parameter-fault x e a = step-fault (λ (y : Parameters). y .fault) _ (pairSound s p e) x _ _ (pair-sound s p e a) (by-each x e .fault) refl
+  parameter-fault x e a = step-fault (λ (y : Parameters). y .fault) _ (pairSound s p e) x _ _ (pair-sound s p e a) refl refl
 
   parameter-tells : (x : Parameters) (ds : List Element) (e : Element) → AllReal s (e .holds) → pairSound s p e ≡ true
       → ParametersTell s x (map (pair s p) ds) → ParametersTell s (withParameter s p x e) (map (pair s p) (ds ++ (e ∷ [])))
   unfolding parameterStep
   parameter-tells x ds e a o h =
-      let q = by-each x e in
+      let name = leafIn s p "valueName" (e .holds) in
+      let value = leafIn s p "value" (e .holds) in
       rw (pair-sound s p e a, o) (record {
-        originator = rw (q .originator) (found-tells s p "EAS-ORG" (x .originator) ds e a (h .originator));
-        text = rw (q .text) (found-tells s p "EASText" (x .text) ds e a (h .text));
-        carry = rw (q .carry) (found-tells s p "EAS-Must-Carry" (x .carry) ds e a (h .carry));
+        all = rows-long s name value readParameters (x .leaf) (h .all);
+        each = λ k q.
+            rw (row-step s name value readParameters (x .leaf) (h .all) k q)
+            (found-tells s p (getD readParameters k (exactly "")) (getD (x .leaf) k (noLeaf 0)) ds e a (h .each k q));
       })
 
   pub parameters-fault : (t : Forest) → AllReal s t → infoOf s p t .parameters .fault ≡ not (every (pairSound s p) (named s p "parameter" t))
@@ -185,8 +155,7 @@ module _ (s p : List ℕ) where
   unfolding infoOf
   parameters-tell t r o =
       fold-sound s (λ (x : Parameters) (ds : List Element). ParametersTell s x (map (pair s p) ds)) (withParameter s p) (pairSound s p) parameter-tells
-      (named s p "parameter" t) (named-real s p "parameter" t r) o (noInfo (length s) .parameters)
-      (record { originator = none-found s; text = none-found s; carry = none-found s })
+      (named s p "parameter" t) (named-real s p "parameter" t r) o (noInfo (length s) .parameters) (none-tell s)
 
 -- ---- resource
 

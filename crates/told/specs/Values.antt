@@ -10,6 +10,7 @@ use Rattle.octets.specs.Bytes.{pick, every, holds, between, same, isDigit}
 use Rattle.octets.specs.Text.{bytes}
 use Rattle.markup.specs.Tree.{Forest, nil}
 use Rattle.values.specs.Value.{small}
+use Rattle.reads.specs.Parameters.{ReadParameter, exactly, isOf}
 use Rattle.gather.specs.Read.{Element, named, bare}
 use Rattle.leaves.specs.Leaf.{leafValue}
 
@@ -84,10 +85,14 @@ geocodes s p t = map (pairOf s p "valueName" "value") (geocodesIn s p t)
 abbrev pub resources : List ℕ → List ℕ → Forest → List Pair
 resources s p t = map (pairOf s p "mimeType" "uri") (named s p "resource" t)
 
--- the values of the pairs of this name, in message order
+-- the values of the parameters of one row of their table, in message order
+abbrev pub valuesUnder : ReadParameter → List Pair → List (List ℕ)
+valuesUnder r [] = []
+valuesUnder r (x ∷ xs) = pick (isOf r (x .name) (x .value)) (x .value ∷ valuesUnder r xs) (valuesUnder r xs)
+
+-- the values of the pairs of exactly this name
 abbrev pub valuesNamed : String → List Pair → List (List ℕ)
-valuesNamed w [] = []
-valuesNamed w (x ∷ xs) = pick (is w (x .name)) (x .value ∷ valuesNamed w xs) (valuesNamed w xs)
+valuesNamed w xs = valuesUnder (exactly w) xs
 
 -- six digits
 abbrev pub isSix : List ℕ → Bool

@@ -2,22 +2,24 @@
 --     LeafAs, InfoAs, AlertAs                                     a leaf, an info, an alert
 --     both-ways                                                   what holds of both choices holds of what equal tests pick
 --     found-as, event-as, parameter-as, location-as, audio-as     what is alike stays so by each step
-use Prim.Native.Nat.{ℕ}
+use Prim.Native.Nat.{ℕ, _<_}
 use mathlib.Core.Path.{_≡_, refl, sym, ap, _∙_}
 use mathlib.Core.Bool.{Bool, true, false, _&&_}
 use mathlib.Core.List.{List}
 use native.Mathlib.Omega.{arith}
-use lib.ListN.{length, getD}
+use lib.ListN.{length, getD, getD-replicate}
 use lib.Dec.{eqb}
 use Rattle.octets.specs.Bytes.{pick, same}
 use Rattle.octets.specs.Text.{bytes}
 use Rattle.values.specs.Value.{valueAt}
 use Rattle.values.proofs.Steps.{value-past}
 use Rattle.reads.specs.WorkingLeaves.{noLeaf, marked, found, soundOf, pairOk, noInfo, nothingRead}
-use Rattle.reads.specs.WorkingSteps.{says, eventStep, parameterStep, locationStep, audioOf, isAudio, audioStep, english}
+use Rattle.reads.specs.WorkingSteps.{says, eventStep, rowStep, parameterStep, locationStep, audioOf, isAudio, audioStep, english}
 use Rattle.reads.specs.declared.Leaf.{Leaf}
 use Rattle.reads.specs.declared.Events.{Events}
 use Rattle.reads.specs.declared.Parameters.{Parameters}
+use Rattle.reads.specs.Parameters.{ReadParameter, exactly, readParameters, parameterCount, isOf}
+use Rattle.reads.proofs.ParameterRows.{row-step, rows-long}
 use Rattle.reads.specs.declared.Locations.{Locations}
 use Rattle.reads.specs.declared.Audio.{Audio}
 use Rattle.reads.specs.declared.Info.{Info}
@@ -41,9 +43,9 @@ module _ (s r : List ℕ) where
     pub fault : x .fault ≡ y .fault
 
   pub record ParametersAs (x y : Parameters) : Type 0 where
-    pub originator : LeafAs (x .originator) (y .originator)
-    pub text : LeafAs (x .text) (y .text)
-    pub carry : LeafAs (x .carry) (y .carry)
+    pub all : length (x .leaf) ≡ parameterCount
+    pub as-many : length (y .leaf) ≡ parameterCount
+    pub each : (k : ℕ) → k < parameterCount → LeafAs (getD (x .leaf) k (noLeaf 0)) (getD (y .leaf) k (noLeaf 0))
     pub fault : x .fault ≡ y .fault
 
   pub record AudioAs (x y : Audio) : Type 0 where
@@ -89,7 +91,17 @@ module _ (s r : List ℕ) where
   no-events-as = record { same = blank-as; fault = refl }
 
   pub no-parameters-as : ParametersAs (noInfo (length s) .parameters) (noInfo (length r) .parameters)
-  no-parameters-as = record { originator = blank-as; text = blank-as; carry = blank-as; fault = refl }
+  no-parameters-as = record {
+    all = refl;
+    as-many = refl;
+    each = λ k h.
+        rw (
+          getD-replicate parameterCount k (noLeaf (length s)) (noLeaf 0) h,
+          getD-replicate parameterCount k (noLeaf (length r)) (noLeaf 0) h,
+        )
+        blank-as;
+    fault = refl;
+  }
 
   pub no-audio-as : AudioAs (noInfo (length s) .audio) (noInfo (length r) .audio)
   no-audio-as = record { number = refl; uri = blank-as .value; fault = refl }
@@ -164,34 +176,27 @@ module _ (s r : List ℕ) where
         (record { same = found-as (x .same) (y .same) (v .at) (w .at) (h .same) (b .value); fault = h .fault }) h)
         (record { same = h .same; fault = refl })
 
+    row-as : (row : ReadParameter) (x y : Leaf) → LeafAs x y → LeafAs (rowStep s l v row x) (rowStep r m w row y)
+    row-as row x y h =
+        both-ways LeafAs (isOf row (valueAt s (l .at)) (valueAt s (v .at))) (isOf row (valueAt r (m .at)) (valueAt r (w .at))) _ _ _ _ (rw (a .value, b .value))
+        (found-as x y (v .at) (w .at) h (b .value)) h
+
     pub parameter-as : (x y : Parameters) → ParametersAs x y → ParametersAs (parameterStep s x l v) (parameterStep r y m w)
     unfolding parameterStep
     parameter-as x y h =
         both-ways ParametersAs (pairOk l v) (pairOk m w) _ _ _ _ (pair-as l m v w a b)
-        (both-ways ParametersAs (says s (l .at) (bytes "EAS-ORG")) (says r (m .at) (bytes "EAS-ORG")) _ _ _ _ (says-as l m (bytes "EAS-ORG") a)
         (record {
-          originator = found-as (x .originator) (y .originator) (v .at) (w .at) (h .originator) (b .value);
-          text = h .text;
-          carry = h .carry;
+          all = rows-long s l v readParameters (x .leaf) (h .all);
+          as-many = rows-long r m w readParameters (y .leaf) (h .as-many);
+          each = λ k q.
+              rw (
+                row-step s l v readParameters (x .leaf) (h .all) k q,
+                row-step r m w readParameters (y .leaf) (h .as-many) k q,
+              )
+              (row-as (getD readParameters k (exactly "")) _ _ (h .each k q));
           fault = h .fault;
         })
-        (both-ways ParametersAs (says s (l .at) (bytes "EASText")) (says r (m .at) (bytes "EASText")) _ _ _ _ (says-as l m (bytes "EASText") a)
-        (record {
-          originator = h .originator;
-          text = found-as (x .text) (y .text) (v .at) (w .at) (h .text) (b .value);
-          carry = h .carry;
-          fault = h .fault;
-        })
-        (both-ways ParametersAs (says s (l .at) (bytes "EAS-Must-Carry")) (says r (m .at) (bytes "EAS-Must-Carry")) _ _ _ _
-        (says-as l m (bytes "EAS-Must-Carry") a)
-        (record {
-          originator = h .originator;
-          text = h .text;
-          carry = found-as (x .carry) (y .carry) (v .at) (w .at) (h .carry) (b .value);
-          fault = h .fault;
-        })
-        h)))
-        (record { originator = h .originator; text = h .text; carry = h .carry; fault = refl })
+        (record { all = h .all; as-many = h .as-many; each = h .each; fault = refl })
 
     pub location-as : (x y : Locations) → x ≡ y → locationStep s x l v ≡ locationStep r y m w
     unfolding locationStep

@@ -2,6 +2,7 @@
 --     nothing-unread-matters     the calls of the library that take a message
 --     same-program               the lines that the program prints
 --     same-activations           whatever is called after an offer, the same goes out
+use native.Mathlib.Omega.{arith}
 use Prim.Native.Nat.{ℕ}
 use mathlib.Core.Path.{_≡_, ap}
 use mathlib.Core.List.{List, _∷_}
@@ -33,13 +34,13 @@ module _ (s r : List ℕ) where
     unfolding textIn
     text-as =
         let i = h .message .alert .info in
-        rw (h .body, i .parameters .text .value, i .senderName .value, i .description .value, i .instruction .value)
+        rw (h .body, i .parameters .each 1 (omega arith) .value, i .senderName .value, i .description .value, i .instruction .value)
 
     given-as : (station : List ℕ) → alertGiven s station j ≡ alertGiven r station k
     unfolding alertGiven
     given-as station =
         let i = h .message .alert .info in
-        rw (text-as, uri-as _ _ (i .audio), i .audio .number, i .parameters .carry .value, h .body)
+        rw (text-as, uri-as _ _ (i .audio), i .audio .number, i .parameters .each 2 (omega arith) .value, h .body)
 
     outcome-as : (station : List ℕ) → outcomeOf s station j ≡ outcomeOf r station k
     unfolding outcomeOf

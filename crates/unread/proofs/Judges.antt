@@ -1,11 +1,13 @@
 -- Two messages that differ only in what is unread are judged alike, up to number 14: the same number and field, quiet both or neither, the same header's parts.
 --     JudgedAs, judged-as
+use native.Mathlib.Omega.{arith}
 use Prim.Native.Nat.{ℕ}
 use mathlib.Core.Path.{_≡_, refl, ap}
 use mathlib.Core.Bool.{Bool, true, false}
 use mathlib.Core.List.{List}
 use lib.Dec.{eqb}
 use Rattle.parts.specs.Originator.{isKnown}
+use Rattle.reads.specs.WorkingLeaves.{easOrgLeaf}
 use Rattle.reads.specs.declared.Leaf.{Leaf}
 use Rattle.message.specs.WorkingMessage.{messageSays}
 use Rattle.message.specs.declared.Message.{Message}
@@ -55,8 +57,8 @@ module _ (s r : List ℕ) where
     lasting-as : lasting s m ≡ lasting r n
     lasting-as = seconds-as (expiresIn m) (expiresIn n) (m .sent) (n .sent) (i .expires) (h .sent)
 
-    from-as : originOf s (infoIn m .parameters .originator) ≡ originOf r (infoIn n .parameters .originator)
-    from-as = origin-as _ _ (i .parameters .originator)
+    from-as : originOf s (easOrgLeaf (infoIn m)) ≡ originOf r (easOrgLeaf (infoIn n))
+    from-as = origin-as _ _ (i .parameters .each 0 (omega arith))
 
     body-as : bodyIn s m ≡ bodyIn r n
     unfolding bodyWith
@@ -69,7 +71,7 @@ module _ (s r : List ℕ) where
     unfolding alerted
     alerted-as =
         both-ways JudgedAs (eventIs s (infoIn m .events .same)) (eventIs r (infoIn n .events .same)) _ _ _ _ (event-is-as _ _ (i .events .same))
-        (both-ways JudgedAs (isKnown (originOf s (infoIn m .parameters .originator))) (isKnown (originOf r (infoIn n .parameters .originator))) _ _ _ _
+        (both-ways JudgedAs (isKnown (originOf s (easOrgLeaf (infoIn m)))) (isKnown (originOf r (easOrgLeaf (infoIn n)))) _ _ _ _
         (ap isKnown from-as)
         (both-ways JudgedAs (located (infoIn m .locations)) (located (infoIn n .locations)) _ _ _ _ (ap located (i .locations))
         (both-ways JudgedAs (eqb (lasting s m) 0) (eqb (lasting r n) 0) _ _ _ _ (ap (λ (x : ℕ). eqb x 0) lasting-as)

@@ -21,7 +21,7 @@ use Rattle.values.specs.WorkingSteps.{sixDigits}
 use Rattle.values.specs.Value as values-value
 use Rattle.reads.specs.WorkingLeaves.{onlyOf, pairOk, soundOf}
 use Rattle.reads.specs.Names.{localAt}
-use Rattle.reads.specs.WorkingSteps.{audioOf, audioStep, english, eventStep, locationStep, parameterStep, withLocation}
+use Rattle.reads.specs.WorkingSteps.{audioOf, audioStep, english, eventStep, locationStep, parameterStep, rowsStep, withLocation}
 use Rattle.gather.specs.WorkingRead.{alertOf, fromEnglish, infoOf, selected, selection}
 use Rattle.gather.specs.Read.{bare, named}
 use Rattle.gather.specs.WorkingVisit.{leafPlace}
@@ -91,7 +91,7 @@ unfolding chars charsTo fold met nextAt spelled textAt values-chars.passed value
 values-opens = tt
 
 reads-opens : Unit {0}
-unfolding onlyOf pairOk soundOf localAt audioOf audioStep english eventStep locationStep parameterStep withLocation
+unfolding onlyOf pairOk soundOf localAt audioOf audioStep english eventStep locationStep parameterStep rowsStep withLocation
 reads-opens = tt
 
 gather-opens : Unit {0}

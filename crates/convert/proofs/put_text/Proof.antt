@@ -5,6 +5,9 @@ use borrow.Author.Needs.{needs}
 use Rattle.convert.proofs.put_text.Statement.{statement}
 use Rattle.convert.proofs.put_text.Tie as tie
 
+element-copy-out-eas : tie.Need-element-copy-out-eas
+element-copy-out-eas c = search needs
+
 element-copy-out-sender : tie.Need-element-copy-out-sender
 element-copy-out-sender c = search needs
 
@@ -27,4 +30,4 @@ returns c = c .before .before .write-text .ensures
 pub put-text-spec : {M : Type 1} → statement M
 put-text-spec =
     tie.close
-    (tie.spec element-copy-out-sender element-copy-out-description element-copy-out-instruction write-text-requires same-length returns)
+    (tie.spec element-copy-out-eas element-copy-out-sender element-copy-out-description element-copy-out-instruction write-text-requires same-length returns)

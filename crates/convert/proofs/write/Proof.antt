@@ -8,6 +8,9 @@ use borrow.Author.Needs.{needs}
 use Rattle.convert.proofs.write.Statement.{statement}
 use Rattle.convert.proofs.write.Tie as tie
 
+element-copy-out-carry : tie.Need-element-copy-out-carry
+element-copy-out-carry c = search needs
+
 slice-aggregate-equal : tie.Need-slice-aggregate-equal
 slice-aggregate-equal c = search needs
 
@@ -47,6 +50,7 @@ pub write-spec : {M : Type 1} → statement M
 write-spec =
     tie.close
     (tie.spec
+    element-copy-out-carry
     slice-aggregate-equal
     equal-requires
     put-header-requires

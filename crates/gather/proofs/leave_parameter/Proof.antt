@@ -1,5 +1,4 @@
--- The parameters are put, and the pair is read anew.
-use mathlib.Core.Path.{_∙_}
+-- What a parameter adds is put, and the pair is read anew.
 use denote.Ref.{now}
 use borrow.Author.Needs.{needs}
 use Rattle.gather.proofs.Ends.{parameter-left}
@@ -15,19 +14,11 @@ add-leaf-at c = search needs
 leaf-at-requires-2 : tie.Need-leaf-at-requires-2
 leaf-at-requires-2 c κs = search needs
 
-parameters-at-requires : tie.Need-parameters-at-requires
-parameters-at-requires c κs = search needs
-
-parameter-step-requires : tie.Need-parameter-step-requires
-parameter-step-requires c κs = search needs
-
-put-parameters-requires : tie.Need-put-parameters-requires
-put-parameters-requires c κs = search needs
+add-parameter-requires : tie.Need-add-parameter-requires
+add-parameter-requires c κs = search needs
 
 clear-pair-requires : tie.Need-clear-pair-requires
-clear-pair-requires c κs =
-    let put = c .before .before .before in
-    put .put-parameters .ensures .0 .long ∙ put .before .before .before .before .before .before .before .before .before .before .before .pre
+clear-pair-requires c κs = search needs
 
 same-length : tie.Need-same-length
 same-length c = search needs
@@ -36,13 +27,11 @@ returns : tie.Need-returns
 returns c =
     let cleared = c .before .before in
     let put = cleared .before .before .before .before in
-    let step = put .before in
-    let had = step .before .before in
-    let value = had .before .before in
+    let value = put .before .before in
     let name = value .before .before in
     let start = name .before .before .before .before in
     parameter-left (now (start .args .s)) (start .pre) (name .leaf-at .ensures) (value .leaf-at2 .ensures) (cleared .clear-pair .ensures)
-    (had .parameters-at .ensures) (step .parameter-step .ensures) (put .put-parameters .ensures)
+    (put .add-parameter .ensures)
 
 pub leave-parameter-spec : {M : Type 1} → statement M
 leave-parameter-spec =
@@ -51,9 +40,7 @@ leave-parameter-spec =
     leaf-at-requires
     add-leaf-at
     leaf-at-requires-2
-    parameters-at-requires
-    parameter-step-requires
-    put-parameters-requires
+    add-parameter-requires
     clear-pair-requires
     same-length
     returns)

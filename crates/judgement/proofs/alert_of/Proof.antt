@@ -7,6 +7,12 @@ use borrow.Author.Needs.{needs}
 use Rattle.judgement.proofs.alert_of.Statement.{statement}
 use Rattle.judgement.proofs.alert_of.Tie as tie
 
+abbrev to-start : tie.After-event-of → tie.Start
+to-start c = c .before .before .before .before .before .before .before .before .before
+
+element-copy-out-originator : tie.Need-element-copy-out-originator
+element-copy-out-originator c = search needs
+
 element-copy-out-expires : tie.Need-element-copy-out-expires
 element-copy-out-expires c = search needs
 
@@ -19,7 +25,7 @@ no-header-requires c κs = search needs
 returns : tie.Need-returns
 returns c =
     let e = c .before .before .before in
-    let a = e .before .before .before .before .before .before .before .before .args in
+    let a = to-start e .args in
     c .no-header .ensures ∙ no-event (now (a .s)) (a .m) _ (e .event-of .ensures) (not-true _ (c .before .if1 .taken))
 
 origin-of-requires : tie.Need-origin-of-requires
@@ -38,7 +44,7 @@ returns-2 : tie.Need-returns-2
 returns-2 c =
     let o = c .before .before .before in
     let e = o .before .before .before in
-    let a = e .before .before .before .before .before .before .before .before .args in
+    let a = to-start e .args in
     c .no-header2 .ensures ∙ no-originator (now (a .s)) (a .m) _ (e .event-of .ensures) (not-false _ (o .before .if1 .left)) (sym (o .origin-of .ensures) ∙ c .before .enum-told .given .1)
 
 is-located-requires : tie.Need-is-located-requires
@@ -52,7 +58,7 @@ returns-3 c =
     let l = c .before .before in
     let o = l .before .before .before .before in
     let e = o .before .before .before in
-    let a = e .before .before .before .before .before .before .before .before .args in
+    let a = to-start e .args in
     c .no-header3 .ensures ∙ no-location (now (a .s)) (a .m) _ (e .event-of .ensures) (not-false _ (o .before .if1 .left)) _ (sym (o .origin-of .ensures) ∙ l .before .before .o .given .1) (sym (l .is-located .ensures) ∙ not-true _ (c .before .if2 .taken))
 
 seconds-to-requires : tie.Need-seconds-to-requires
@@ -67,7 +73,7 @@ returns-4 c =
     let l = n .before .before in
     let o = l .before .before .before .before in
     let e = o .before .before .before in
-    let a = e .before .before .before .before .before .before .before .before .args in
+    let a = to-start e .args in
     c .no-header4 .ensures ∙ no-end (now (a .s)) (a .m) _ (e .event-of .ensures) (not-false _ (o .before .if1 .left)) _ (sym (o .origin-of .ensures) ∙ l .before .before .o .given .1) (sym (l .is-located .ensures) ∙ not-false _ (n .before .if2 .left)) _ (n .seconds-to .ensures) (c .before .if3 .taken)
 
 body-with-requires : tie.Need-body-with-requires
@@ -79,13 +85,14 @@ returns-5 c =
     let l = n .before .before in
     let o = l .before .before .before .before in
     let e = o .before .before .before in
-    let a = e .before .before .before .before .before .before .before .before .args in
+    let a = to-start e .args in
     rw (c .body-with .ensures) (an-alert (now (a .s)) (a .m) _ (e .event-of .ensures) (not-false _ (o .before .if1 .left)) _ (sym (o .origin-of .ensures) ∙ l .before .before .o .given .1) (sym (l .is-located .ensures) ∙ not-false _ (n .before .if2 .left)) _ (n .seconds-to .ensures) (c .before .before .if3 .left))
 
 pub alert-of-spec : {M : Type 1} → statement M
 alert-of-spec =
     tie.close
     (tie.spec
+    element-copy-out-originator
     element-copy-out-expires
     event-of-requires
     no-header-requires

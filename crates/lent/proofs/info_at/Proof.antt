@@ -3,7 +3,7 @@ use Prim.Native.Nat.{_+_, _≤_}
 use native.Mathlib.Omega.{arith}
 use denote.Ref.{now}
 use borrow.Author.Needs.{needs}
-use Rattle.lent.specs.WorkingLent.{lentInfo}
+use Rattle.lent.specs.WorkingLent.{infoNumbers, lentInfo}
 use Rattle.lent.proofs.Clears.{five-leaves}
 use Rattle.lent.proofs.info_at.Statement.{statement}
 use Rattle.lent.proofs.info_at.Tie as tie
@@ -54,7 +54,7 @@ locations-at-requires : tie.Need-locations-at-requires
 locations-at-requires c κs = search needs
 
 -- where all that is read ends
-fits : (c : tie.After-shared-slice-known) → c .before .args .a + 66 ≤ 18446744073709551615
+fits : (c : tie.After-shared-slice-known) → c .before .args .a + infoNumbers ≤ 18446744073709551615
 fits c = search needs
 
 add-parameters-at : tie.Need-add-parameters-at

@@ -4,17 +4,17 @@ use mathlib.Core.Logic.{inl}
 use mathlib.Core.Path.{_∙_}
 use native.Mathlib.Omega.{arith}
 use borrow.Author.Needs.{needs}
-use Rattle.lent.specs.WorkingLent.{numberIn}
+use Rattle.lent.specs.WorkingLent.{numberIn, infoNumbers, chosenFrom}
 use Rattle.lent.proofs.Parts.{info-as}
 use Rattle.lent.proofs.Clears.{Putting, putting-starts, putting-on}
 use Rattle.lent.proofs.keep_info.Statement.{statement}
 use Rattle.lent.proofs.keep_info.Tie as tie
 
 abbrev Inv-loop : tie.InvT-loop
-Inv-loop st₀ k₀ st k = Putting (λ j. numberIn st₀ (29 + j)) st₀ st 95 66 k
+Inv-loop st₀ k₀ st k = Putting (λ j. numberIn st₀ (29 + j)) st₀ st chosenFrom infoNumbers k
 
 abbrev μ-loop : tie.MeasureT-loop
-μ-loop st₀ k₀ st k = 66 - k
+μ-loop st₀ k₀ st k = infoNumbers - k
 
 loop-holds : tie.Need-loop-holds Inv-loop μ-loop
 loop-holds c = putting-starts _ _ _ _
@@ -54,7 +54,7 @@ same-length c = c .before .loop .inv .but .long
 returns : tie.Need-returns Inv-loop μ-loop
 returns c =
     let w = c .before .loop in
-    (w .inv .but, info-as _ _ 29 95 (λ j h. w .inv .is j (omega (arith, h, c .loop-test .left))))
+    (w .inv .but, info-as _ _ 29 chosenFrom (λ j h. w .inv .is j (omega (arith, h, c .loop-test .left))))
 
 pub keep-info-spec : {M : Type 1} → statement M
 keep-info-spec =

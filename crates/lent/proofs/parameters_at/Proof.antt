@@ -1,4 +1,6 @@
+-- The fault, and each leaf at its place.
 use borrow.Author.Needs.{needs}
+use Rattle.lent.proofs.Clears.{parameter-leaves}
 use Rattle.lent.proofs.parameters_at.Statement.{statement}
 use Rattle.lent.proofs.parameters_at.Tie as tie
 
@@ -27,7 +29,7 @@ leaf-at-requires-3 : tie.Need-leaf-at-requires-3
 leaf-at-requires-3 c κs = search needs
 
 returns : tie.Need-returns
-returns c = rw (c .leaf-at3 .ensures, c .before .leaf-at2 .ensures, c .before .before .leaf-at .ensures)
+returns c = rw (parameter-leaves _ _, c .leaf-at3 .ensures, c .before .leaf-at2 .ensures, c .before .before .leaf-at .ensures)
 
 pub parameters-at-spec : {M : Type 1} → statement M
 parameters-at-spec =
