@@ -1,27 +1,24 @@
 -- The outcome of a conversion, by what was found: a message s, a station, and outputs of h, t and u bytes.
 --     untouched      where nothing is given, each output is as it was
+--     rooms          how long outputs are that are long enough
 use Prim.Native.Nat.{ℕ, _≤_}
-use mathlib.Core.Path.{_≡_, refl, sym, ap, _∙_}
-use mathlib.Core.Bool.{Bool, true, false}
-use mathlib.Core.List.{List, []}
-use native.Mathlib.Omega.{arith}
-use borrow.Author.Tests.{ne-eqb}
-use lib.ListN.{length}
+use mathlib.Core.Path.{_≡_, sym, ap, _∙_}
+use mathlib.Core.Bool.{true, false}
+use mathlib.Core.List.{List}
+use borrow.Author.Tests.{ne-eqb, leb-true}
 use lib.Seq.{sets}
-use lib.Dec.{eqb}
-use Rattle.octets.specs.Bytes.{pick, between}
-use Rattle.octets.proofs.Tests.{between-high}
-use Rattle.values.specs.Value.{valueAt}
+use lib.Dec.{leb}
+use Rattle.octets.proofs.Tests.{and-left, and-right}
 use Rattle.parts.specs.Parts.{stationOk}
-use Rattle.reads.specs.declared.Audio.{Audio}
 use Rattle.message.specs.WorkingMessage.{messageSays}
 use Rattle.leaves.proofs.Fits.{audio-fits}
 use Rattle.judgement.specs.WorkingRules.{infoIn}
 use Rattle.judgement.specs.WorkingJudged.{judgedOf}
 use Rattle.judgement.specs.declared.Judged.{Judged}
 use Rattle.judgement.proofs.Bodies.{body-ok, message-kept}
+use Rattle.outputs.proofs.Fits.{room-of, uri-fits}
 use Rattle.convert.specs.Convert.{nothing, Outcome, answerOf}
-use Rattle.convert.specs.WorkingConvert.{uriIn, alertGiven, refusedWith, Ready, roomy, outcomeOf, convertOf}
+use Rattle.convert.specs.WorkingConvert.{alertGiven, refusedWith, Ready, roomy, outcomeOf, convertOf}
 use Rattle.convert.specs.declared.Converted.{Converted}
 
 -- ---- nothing given
@@ -43,13 +40,9 @@ untouched o r header text uri n f e h = record {
 
 -- ---- by the numbers
 
-uri-fits : (s : List ℕ) (a : Audio) → (eqb (a .number) 0 ≡ false → between 1 1024 (length (valueAt s (a .uri))) ≡ true) → length (uriIn s a) ≤ 1024
-unfolding uriIn
-uri-fits s a h = by (eqb (a .number) 0) refl
-  where
-    by : (b : Bool) → eqb (a .number) 0 ≡ b → length (pick (eqb (a .number) 0) [] (valueAt s (a .uri))) ≤ 1024
-    by true e = rw e (omega arith)
-    by false e = rw e (between-high 1 1024 (length (valueAt s (a .uri))) (h e))
+pub rooms : (h t u : ℕ) → roomy h t u ≡ true → (252 ≤ h) × (1800 ≤ t) × (1024 ≤ u)
+unfolding roomy
+rooms h t u r = let o = room-of t u (and-right (leb 252 h) _ r) in (leb-true 252 h (and-left (leb 252 h) _ r), o .0, o .1)
 
 module _ (s station : List ℕ) (h t u : ℕ) where
   pub short : roomy h t u ≡ false → convertOf s station h t u ≡ refusedWith 2

@@ -2,10 +2,10 @@
 use Prim.Native.Nat.{ℕ, _≤_}
 use mathlib.Core.Path.{_≡_}
 use mathlib.Core.Bool.{Bool, true, _&&_, not}
-use mathlib.Core.List.{List, [], _∷_}
+use mathlib.Core.List.{List}
 use lib.ListN.{length}
 use lib.Dec.{eqb, leb}
-use Rattle.octets.specs.Bytes.{pick, every, holds}
+use Rattle.octets.specs.Bytes.{pick}
 use Rattle.octets.specs.Text.{bytes}
 use Rattle.values.specs.Value.{valueAt}
 use Rattle.parts.specs.Parts.{bodyOk, stationOk}
@@ -13,13 +13,13 @@ use Rattle.parts.specs.declared.Body.{Body}
 use Rattle.header.specs.Header.{headerBytes}
 use Rattle.reads.specs.WorkingLeaves.{easTextLeaf, mustCarryLeaf, senderNameLeaf, descriptionLeaf, instructionLeaf}
 use Rattle.reads.specs.WorkingSteps.{says}
-use Rattle.reads.specs.declared.Audio.{Audio}
 use Rattle.reads.specs.declared.Info.{Info}
 use Rattle.sentence.specs.Words.{sentenceOf}
 use Rattle.wording.specs.Text.{textOf}
 use Rattle.judgement.specs.WorkingRules.{infoIn}
 use Rattle.judgement.specs.WorkingJudged.{judgedOf}
 use Rattle.judgement.specs.declared.Judged.{Judged}
+use Rattle.outputs.specs.WorkingOutputs.{roomyText, uriIn}
 use Rattle.convert.specs.Convert.{Given, nothing, Outcome}
 
 -- ---- what an alert gives
@@ -33,10 +33,6 @@ unfoldable pub textIn : List ℕ → Judged → List ℕ
 textIn s j =
     let i = infoIn (j .message) in
     textOf (sentenceOf (j .body)) (valueAt s (easTextLeaf i .at)) (valueAt s (senderNameLeaf i .at)) (valueAt s (descriptionLeaf i .at)) (valueAt s (instructionLeaf i .at))
-
--- the uri of the audio choice; none without audio
-unfoldable pub uriIn : List ℕ → Audio → List ℕ
-uriIn s a = pick (eqb (a .number) 0) [] (valueAt s (a .uri))
 
 -- must-carry: the first EAS-Must-Carry parameter is `True`
 abbrev pub carryIn : List ℕ → Info → Bool
@@ -60,7 +56,7 @@ refusedWith number = record { number = number; field = 0; given = nothing }
 
 -- lent output short: header 252, text 1,800, uri 1,024
 unfoldable pub roomy : ℕ → ℕ → ℕ → Bool
-roomy header text uri = every holds (leb 252 header ∷ leb 1800 text ∷ leb 1024 uri ∷ [])
+roomy header text uri = leb 252 header && roomyText text uri
 
 -- after 0 a message that is not quiet gives all that it has
 unfoldable pub outcomeOf : List ℕ → List ℕ → Judged → Outcome

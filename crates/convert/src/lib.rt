@@ -2,14 +2,13 @@
 use judgement::Judged;
 use parts::Body;
 use parts::Parts;
-use reads::Audio;
 ghost use mathlib.Core.Path.{_≡_};
 ghost use mathlib.Core.Bool.{true};
 ghost use Prim.Native.Nat.{_≤_};
 ghost use lib.ListN.{length};
 ghost use lib.Seq.{sets};
 ghost use Rattle.parts.specs.Parts.{bodyOk, stationOk};
-ghost use Rattle.convert.specs.WorkingConvert.{Ready, stationHeader, textIn, uriIn, alertGiven, roomy, convertOf};
+ghost use Rattle.convert.specs.WorkingConvert.{Ready, stationHeader, textIn, alertGiven, roomy, convertOf};
 ghost use Rattle.convert.specs.Convert.{nothing, answerOf};
 
 // What a conversion answers: the number and the field; how long header, uri and text are; audio (0 none, 1 mp3, 2 wav, 3 stream); must-carry.
@@ -30,10 +29,7 @@ fn is_roomy(header: usize, text: usize, uri: usize) -> bool
     if header < 252 {
         return false;
     }
-    if text < 1800 {
-        return false;
-    }
-    1024 <= uri
+    outputs::is_roomy(text, uri)
 }
 
 // An answer with nothing written: a refusal, or a quiet Cancel.
@@ -95,18 +91,6 @@ fn put_text(s: &[u8], j: Judged, out: &mut [u8]) -> usize
     )
 }
 
-fn put_uri(s: &[u8], a: Audio, out: &mut [u8]) -> usize
-    requires { ⌜ length (uriIn (now s) a) ≤ 1024 ⌝ }
-    requires { ⌜ 1024 ≤ length (now out) ⌝ }
-    ensures { λ r. ⌜ r ≡ length (uriIn (now (s .entry)) a) ⌝ }
-    ensures { λ _. ⌜ now (out .exit) ≡ sets (now (out .entry)) 0 (uriIn (now (s .entry)) a) ⌝ }
-{
-    if a.number == 0 {
-        return 0;
-    }
-    values::copy(s, a.uri, 1024, out, 0)
-}
-
 // Writes all that an alert gives.
 fn write(
     s: &[u8],
@@ -132,7 +116,7 @@ fn write(
     let carried = values::equal(s, carry.at, b"True");
     let headed = put_header(station, body, header);
     let worded = put_text(s, j, text);
-    let linked = put_uri(s, audio, uri);
+    let linked = outputs::put_uri(s, audio, uri);
     Converted {
         number: 0,
         field: j.field,

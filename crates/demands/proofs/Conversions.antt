@@ -14,6 +14,7 @@ use Rattle.parts.specs.declared.Parts.{Parts}
 use Rattle.header.specs.declared.Read.{Read}
 use Rattle.header.specs.Header.{headerForm, readOf, writeNumber, writeOf, writeBytes}
 use Rattle.judgement.specs.WorkingJudged.{judgedOf}
+use Rattle.outputs.specs.WorkingOutputs.{roomyText}
 use Rattle.convert.specs.Convert.{nothing, Outcome}
 use Rattle.convert.specs.WorkingConvert.{refusedWith, roomy, outcomeOf, convertOf}
 use Rattle.demands.specs.Calls.{library}
@@ -31,7 +32,7 @@ module _ (s station : List ℕ) (h t u : ℕ) where
       either-way P (roomy h t u) _ _ (λ _. either-way P (parts.stationOk station) _ _ (λ _. judged) (λ _. three)) (λ _. two)
 
   convert-number : convertOf s station h t u .number ≡ lowestIn (conversionRows s station h t u)
-  unfolding convertOf outcomeOf roomy parts.stationOk parts.isStationByte
+  unfolding convertOf outcomeOf roomy roomyText every parts.stationOk parts.isStationByte
   convert-number =
       let f : Outcome → ℕ = λ (o : Outcome). o .number in
       at-pick f (roomy h t u) _ _ ∙ held (roomy h t u) 2 _ (drop 1 (conversionRows s station h t u))

@@ -9,7 +9,7 @@ use native.Mathlib.Omega.{arith}
 use borrow.Author.Tests.{eq-eqb, eqb-true, not-true, not-false}
 use lib.ListN.{length, drop}
 use lib.Dec.{eqb}
-use Rattle.octets.specs.Bytes.{pick}
+use Rattle.octets.specs.Bytes.{pick, every}
 use Rattle.octets.proofs.Tests.{and-left, and-right, either-way}
 use Rattle.parts.specs.Parts as parts
 use Rattle.parts.specs.declared.Body.{Body}
@@ -26,6 +26,7 @@ use Rattle.judgement.specs.WorkingJudged.{judgedOf}
 use Rattle.judgement.proofs.Bodies.{body-ok}
 use Rattle.records.specs.Record.{pad}
 use Rattle.convert.specs.Convert.{Given, nothing, Outcome}
+use Rattle.outputs.specs.WorkingOutputs.{roomyText}
 use Rattle.convert.specs.WorkingConvert.{alertGiven, roomy, outcomeOf, convertOf}
 use Rattle.demands.specs.Calls.{library}
 use Rattle.demands.specs.Message.{isQuiet, headerBody, headerParts, wholeOf}
@@ -72,7 +73,7 @@ module _ (s station : List ℕ) (h t u : ℕ) where
       outcome : convertOf s station h t u ≡ outcomeOf s station (judgedOf s)
 
     passed : Passed
-    unfolding convertOf outcomeOf roomy parts.stationOk parts.isStationByte
+    unfolding convertOf outcomeOf roomy roomyText every parts.stationOk parts.isStationByte
     passed =
         let rows = conversionRows s station h t u in
         let room : roomy h t u ≡ true = not-false _ (each-off 0 rows none) in

@@ -24,7 +24,8 @@ use Rattle.judgement.specs.WorkingJudged.{without, bodyWith, bodyIn, alerted, j
 use Rattle.judgement.specs.declared.Judged.{Judged}
 use Rattle.judgement.proofs.Answers.{alerted-holds, judged-holds, passed}
 use Rattle.judgement.proofs.Bodies.{alerting, alert-body, message-kept}
-use Rattle.convert.specs.WorkingConvert.{textIn, uriIn, alertGiven}
+use Rattle.outputs.specs.WorkingOutputs.{uriIn}
+use Rattle.convert.specs.WorkingConvert.{textIn, alertGiven}
 use Rattle.records.specs.Record.{notice, withdrawal}
 use Rattle.offers.specs.WorkingRecords.{ownIn, zeroFilledHeader, namedBy, alertBy, recordsOf}
 use Rattle.told.specs.Values.{isNone, valueOf, isSix}

@@ -10,7 +10,8 @@ use Rattle.octets.specs.Text.{bytes}
 use Rattle.reads.specs.declared.Audio.{Audio}
 use Rattle.judgement.specs.WorkingJudged.{judgedOf}
 use Rattle.judgement.specs.declared.Judged.{Judged}
-use Rattle.convert.specs.WorkingConvert.{textIn, uriIn, alertGiven, outcomeOf, convertOf}
+use Rattle.outputs.specs.WorkingOutputs.{uriIn}
+use Rattle.convert.specs.WorkingConvert.{textIn, alertGiven, outcomeOf, convertOf}
 use Rattle.offers.specs.WorkingRecords.{ownIn, zeroFilledHeader, alertBy, recordsOf}
 use Rattle.offers.specs.Offer.{MessageOffering}
 use Rattle.offers.specs.WorkingOffer.{messageOffer}

@@ -1,22 +1,24 @@
 -- A value after one space, and a value cut.
+--     plain-short, plain-append            what is cut at 1,800 in all, and what then follows
+--     plain-next                           a value put behind it
 --     part-behind                          a space and characters behind it, as two calls put them
 --     part-none, part-put, part-marked     what is put of a value, by whether it is empty, fits or is cut
 --     part-long                            how long that is
-use Prim.Native.Nat.{ℕ, _+_, _-_, _≤_, _<_, min}
-use mathlib.Core.Bool.{true, false}
-use mathlib.Core.List.{List, [], _∷_, _++_, append-assoc}
+use Prim.Native.Nat.{ℕ, suc, _+_, _-_, _≤_, _<_, min}
+use mathlib.Core.Bool.{Bool, true, false}
+use mathlib.Core.List.{List, [], _∷_, _++_, append-assoc, append-nil}
 use mathlib.Core.Path.{_≡_, refl, sym, ap, ap₂, _∙_}
-use native.Mathlib.Decide.{decLt}
+use native.Mathlib.Decide.{decLe, decLt}
 use native.Mathlib.Omega.{arith}
 use lib.ListN.{length, take, drop, length-append, length-take, length-drop, take-append-drop}
-use lib.Seq.{sets, sets-eq, length-sets, take-at, drop-at, take-all, length-take-le, take-take}
+use lib.Seq.{sets, sets-eq, length-sets, take-at, drop-at, take-all, take-append-le, take-append-add, take-nil, length-take-le, take-take}
 use borrow.Author.Tests.{le-leb, lt-leb}
-use Rattle.octets.proofs.Runs.{sets-append, behind}
+use Rattle.octets.proofs.Runs.{Run, sets-append, behind}
 use Rattle.octets.proofs.Sames.{same-is}
 use Rattle.octets.specs.Bytes.{same}
 use Rattle.octets.specs.Text.{bytes}
-use Rattle.sentence.proofs.Puts.{Put, first, put-all}
-use Rattle.wording.specs.Text.{empty, afterSpace, one, cut}
+use Rattle.sentence.proofs.Puts.{Put, first, next, put-all}
+use Rattle.wording.specs.Text.{most, plain, empty, afterSpace, one, cut}
 
 -- ---- empty or not
 
@@ -43,7 +45,65 @@ unfolding same
 one-some [] h = absurd (omega arith)
 one-some (c ∷ v) h = refl
 
--- ---- cut
+-- ---- cut at 1,800 in all
+
+pub plain-short : (t : List ℕ) → length (plain t) ≤ 1800
+plain-short t = omega (arith, length-take most t)
+
+-- a run behind what is cut gets what that leaves
+pub plain-append : (a b : List ℕ) → plain (a ++ b) ≡ plain a ++ take (most - length (plain a)) b
+plain-append a b = go (decLe (length a) most)
+  where
+    go : Dec (length a ≤ most) → plain (a ++ b) ≡ plain a ++ take (most - length (plain a)) b
+    go (yes h) =
+        let all = take-all most a h in
+        let m : most ≡ length a + (most - length a) = omega arith in
+        ap (λ (n : ℕ). take n (a ++ b)) m ∙ take-append-add a b (most - length a) ∙ ap (λ (x : List ℕ). x ++ take (most - length x) b) (sym all)
+    go (no h) =
+        let full : most - length (plain a) ≡ 0 = omega (arith, length-take most a) in
+        take-append-le most a b (omega arith) ∙ sym (append-nil (plain a)) ∙ ap (λ (n : ℕ). plain a ++ take n b) (sym full)
+
+-- a value after one space, put behind what is cut
+pub plain-next : (a v : List ℕ) {d x y : List ℕ} {e f : ℕ} → Run d 0 (plain a) x e → Put x e (take (most - e) (afterSpace v)) y f → Run d 0 (plain (a ++ afterSpace v)) y f
+plain-next a v {d} {x} {y} {e} r p =
+    let n : e ≡ length (plain a) = omega (arith, r .ends) in
+    let t = next r (take (most - e) (afterSpace v)) p in
+    first d 0 (plain (a ++ afterSpace v)) (put-all t _ (plain-append a (afterSpace v) ∙ ap (λ (k : ℕ). plain a ++ take (most - k) (afterSpace v)) (sym n)))
+
+-- what is left of a value after one space: nothing where the text is full or the value empty
+
+pub spaced-full : (v : List ℕ) (n : ℕ) → n ≡ most → take (most - n) (afterSpace v) ≡ []
+spaced-full v n h = rw h
+
+pub spaced-none : (v : List ℕ) → empty v ≡ true → (n : ℕ) → take n (afterSpace v) ≡ []
+unfolding afterSpace
+spaced-none v h n = rw h (take-nil n)
+
+pub spaced-some : (v : List ℕ) → empty v ≡ false → (n : ℕ) → n < most → take (most - n) (afterSpace v) ≡ 32 ∷ take (1799 - n) v
+spaced-some v h n l =
+    let m : most - n ≡ suc (1799 - n) = omega arith in
+    ap (λ (k : ℕ). take k (afterSpace v)) m ∙ ap (take (suc (1799 - n))) (after-some v (some-long v h))
+
+-- by what has been put of it, whether a value is there
+pub value-there : (v : List ℕ) (n e : ℕ) → e ≡ n + length (take (most - n) (afterSpace v)) → (e ≡ n → ⊥) → empty v ≡ false
+value-there v n e h k = go (empty v) refl
+  where
+    go : (b : Bool) → empty v ≡ b → empty v ≡ false
+    go true t = absurd (k (omega (arith, h, ap length (spaced-none v t (most - n)))))
+    go false t = t
+
+pub value-absent : (v : List ℕ) (n e : ℕ) → e ≡ n + length (take (most - n) (afterSpace v)) → n < most → e ≡ n → empty v ≡ true
+value-absent v n e h l k = go (empty v) refl
+  where
+    go : (b : Bool) → empty v ≡ b → empty v ≡ true
+    go true t = t
+    go false t = absurd (omega (arith, h, k, ap length (spaced-some v t n l)))
+
+-- nothing of an empty value is put
+pub absent-stays : (v : List ℕ) (n : ℕ) {x y : List ℕ} → empty v ≡ true → y ≡ sets x n (take (most - n) (afterSpace v)) → y ≡ x
+absent-stays v n {x} h p = p ∙ ap (sets x n) (spaced-none v h (most - n))
+
+-- ---- cut with a mark
 
 cut-fits : (g : ℕ) (v : List ℕ) → length v ≤ g → cut g v ≡ v
 unfolding cut

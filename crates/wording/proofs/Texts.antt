@@ -1,20 +1,20 @@
 -- The text, piece by piece.
 --     text-le, text-full    at most 1,800 characters, and as many where description and instruction don't fit
 --     text-eas, text-parts  the text by whether EASText is empty
-use Prim.Native.Nat.{ℕ, suc, _+_, _-_, _≤_, _<_}
+use Prim.Native.Nat.{ℕ, _+_, _≤_, _<_}
 use mathlib.Core.Bool.{Bool, true, false}
 use mathlib.Core.List.{List, [], _∷_, _++_}
 use mathlib.Core.Path.{_≡_, refl, ap, _∙_}
 use native.Mathlib.Omega.{arith}
 use lib.ListN.{length, take, length-append, length-take}
-use lib.Seq.{sets, take-append-add}
+use lib.Seq.{sets}
 use Rattle.octets.proofs.Runs.{Run}
 use Rattle.octets.proofs.Tests.{either-way}
 use Rattle.octets.specs.Bytes.{same}
 use Rattle.octets.specs.Text.{bytes}
 use Rattle.sentence.proofs.Puts.{put-all}
 use Rattle.wording.specs.Text.{most, plain, empty, afterSpace, phrase, roomOf, lastParts, textOf}
-use Rattle.wording.proofs.Cuts.{some-long, after-some}
+use Rattle.wording.proofs.Cuts.{plain-short}
 use Rattle.wording.proofs.Allotments.{parts-le, parts-full}
 
 -- what has been put at the very start
@@ -49,19 +49,13 @@ front-le : (sentence sender : List ℕ) → length (front sentence sender) ≤ l
 front-le sentence sender = omega (arith, length-append sentence (afterSpace (phrase sender)), phrase-le sender)
 
 module _ (sentence eas sender d i : List ℕ) where
-  pub text-eas : empty eas ≡ false → length sentence ≤ 1799 → textOf sentence eas sender d i ≡ sentence ++ (32 ∷ take (1799 - length sentence) eas)
+  pub text-eas : empty eas ≡ false → textOf sentence eas sender d i ≡ plain (sentence ++ afterSpace eas)
   unfolding textOf
-  text-eas h k =
-      let m : most ≡ length sentence + suc (1799 - length sentence) = omega arith in
-      rw (h, after-some eas (some-long eas h)) (ap (λ (n : ℕ). take n (sentence ++ (32 ∷ eas))) m ∙ take-append-add sentence (32 ∷ eas) (suc (1799 - length sentence)))
+  text-eas h = rw h
 
   pub text-parts : empty eas ≡ true → textOf sentence eas sender d i ≡ front sentence sender ++ lastParts (length (front sentence sender)) d i
   unfolding textOf
   text-parts h = rw h
-
--- any text that is cut plainly
-pub plain-le : (t : List ℕ) → length (plain t) ≤ most
-plain-le t = omega (arith, length-take most t)
 
 -- a sentence of at most 389 characters leaves room, as one of up to 1,577 would
 pub text-le : (sentence eas sender d i : List ℕ) → length sentence ≤ 1577 → length (textOf sentence eas sender d i) ≤ most
@@ -72,7 +66,7 @@ text-le sentence eas sender d i h =
     let short = front-le sentence sender in
     either-way (λ (t : List ℕ). length t ≤ most) (empty eas) (before ++ parts) (plain (sentence ++ afterSpace eas))
     (λ e. omega (arith, length-append before parts, parts-le (length before) d i (omega arith)))
-    (λ e. plain-le (sentence ++ afterSpace eas))
+    (λ e. plain-short (sentence ++ afterSpace eas))
 
 -- and where description and instruction don't fit, the text has exactly 1,800 characters
 pub text-full : (sentence eas sender d i : List ℕ) → length sentence ≤ 1577 → empty eas ≡ true

@@ -3,12 +3,12 @@
 use parts::Body;
 ghost use mathlib.Core.Path.{_≡_};
 ghost use mathlib.Core.List.{_∷_};
-ghost use Prim.Native.Nat.{_+_, _≤_, _<_};
+ghost use Prim.Native.Nat.{_+_, _-_, _≤_, _<_};
 ghost use lib.ListN.{length, take};
 ghost use lib.Seq.{sets};
 ghost use Rattle.values.specs.Value.{valueAt};
 ghost use Rattle.sentence.specs.Words.{sentenceOf};
-ghost use Rattle.wording.specs.Text.{cut, afterSpace, phrase, lastParts, textOf};
+ghost use Rattle.wording.specs.Text.{most, cut, afterSpace, phrase, lastParts, textOf};
 ghost use Rattle.wording.specs.WorkingGiven.{givenTo};
 
 // The 1,800 characters that a text may have, less the space before what is put last.
@@ -22,6 +22,21 @@ fn put_spaced(s: &[u8], p: usize, g: usize, out: &mut [u8], at: usize) -> usize
 {
     octets::put_byte(out, at, 32);
     at + 1 + values::copy(s, p, g, out, at + 1)
+}
+
+// Puts a space and the value at p behind the n characters of `out`, if there is one, cut at 1,800 in all without a mark.
+pub fn put_plain(s: &[u8], p: usize, out: &mut [u8], n: usize) -> usize
+    requires { ⌜ (n ≤ 1800) × (1800 ≤ length (now out)) ⌝ }
+    ensures { λ r. ⌜ r ≡ n + length (take (most - n) (afterSpace (valueAt (now (s .entry)) p))) ⌝ }
+    ensures { λ _. ⌜ now (out .exit) ≡ sets (now (out .entry)) n (take (most - n) (afterSpace (valueAt (now (s .entry)) p))) ⌝ }
+{
+    if n == 1800 {
+        return n;
+    }
+    if values::is_empty(s, p) {
+        return n;
+    }
+    put_spaced(s, p, ROOM - n, out, n)
 }
 
 // Puts a space and the value at p, cut to g, if there is one. Nothing is measured: where the value goes on behind what was put, the mark
@@ -107,9 +122,10 @@ pub fn write_text(
     ensures { λ _. ⌜ now (out .exit) ≡ sets (now (out .entry)) 0 (textOf (sentenceOf b) (valueAt (now (s .entry)) eas) (valueAt (now (s .entry)) sender) (valueAt (now (s .entry)) description) (valueAt (now (s .entry)) instruction)) ⌝ }
 {
     let n = sentence::put_sentence(out, 0, b);
-    if !values::is_empty(s, eas) {
-        return put_spaced(s, eas, ROOM - n, out, n);
+    let e = put_plain(s, eas, out, n);
+    if e != n {
+        return e;
     }
-    let e = put_phrase(s, sender, out, n);
-    put_parts(s, description, instruction, out, e)
+    let f = put_phrase(s, sender, out, n);
+    put_parts(s, description, instruction, out, f)
 }

@@ -48,7 +48,8 @@ use Rattle.judgement.specs.WorkingRules.{eventIs, lacksReferences, located, ori
 use Rattle.sentence.specs.Words.{locationWord, orgWords, others, sentenceOf, whenWords, whoWords, wordsIn}
 use Rattle.sentence.specs.Words as sentence-words
 use Rattle.wording.specs.Text.{afterSpace, cut, lastParts, phrase, roomOf, sharesOf, textOf}
-use Rattle.convert.specs.WorkingConvert.{alertGiven, convertOf, outcomeOf, roomy, textIn, uriIn}
+use Rattle.outputs.specs.WorkingOutputs.{roomyText, uriIn}
+use Rattle.convert.specs.WorkingConvert.{alertGiven, convertOf, outcomeOf, roomy, textIn}
 use Rattle.report.specs.Lines.{alertLines, audioLine, audioWords, carryLine, decimal, line, linesOf, numberLine, orNone, valueLine}
 use Rattle.report.specs.Lines as report-lines
 use Rattle.report.specs.Program.{programOf}
@@ -119,8 +120,12 @@ wording-opens : Unit {0}
 unfolding afterSpace cut lastParts phrase roomOf sharesOf textOf
 wording-opens = tt
 
+outputs-opens : Unit {0}
+unfolding roomyText uriIn
+outputs-opens = tt
+
 convert-opens : Unit {0}
-unfolding alertGiven convertOf outcomeOf roomy textIn uriIn
+unfolding alertGiven convertOf outcomeOf roomy textIn
 convert-opens = tt
 
 report-opens : Unit {0}
@@ -128,5 +133,5 @@ unfolding alertLines audioLine audioWords carryLine decimal line linesOf numberL
 report-opens = tt
 
 unfoldable pub converting : Unit {0}
-unfolding octets-opens clock-opens parts-opens header-opens pieces-opens tags-opens markup-opens values-opens reads-opens gather-opens fields-opens message-opens judgement-opens sentence-opens wording-opens convert-opens report-opens
+unfolding octets-opens clock-opens parts-opens header-opens pieces-opens tags-opens markup-opens values-opens reads-opens gather-opens fields-opens message-opens judgement-opens sentence-opens wording-opens outputs-opens convert-opens report-opens
 converting = tt

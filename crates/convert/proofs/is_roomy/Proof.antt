@@ -1,22 +1,20 @@
--- By the tests, one after the other.
-use mathlib.Core.Bool.{and-true}
+-- The header's test first, then those of the other two.
 use borrow.Author.Tests.{le-leb, lt-leb}
-use Rattle.octets.specs.Bytes.{every}
+use borrow.Author.Needs.{needs}
 use Rattle.convert.specs.WorkingConvert.{roomy}
 use Rattle.convert.proofs.is_roomy.Statement.{statement}
 use Rattle.convert.proofs.is_roomy.Tie as tie
 
 returns : tie.Need-returns
-unfolding roomy every
+unfolding roomy
 returns c = rw (lt-leb _ _ (c .if1 .taken))
 
-returns-2 : tie.Need-returns-2
-unfolding roomy every
-returns-2 c = rw (le-leb _ _ (c .before .if1 .left), lt-leb _ _ (c .if2 .taken))
+is-roomy-requires : tie.Need-is-roomy-requires
+is-roomy-requires c κs = search needs
 
-returns-3 : tie.Need-returns-3
-unfolding roomy every
-returns-3 c = rw (le-leb _ _ (c .before .if1 .left), le-leb _ _ (c .if2 .left), and-true)
+returns-2 : tie.Need-returns-2
+unfolding roomy
+returns-2 c = rw (le-leb _ _ (c .before .if1 .left)) (c .is-roomy .ensures)
 
 pub is-roomy-spec : {M : Type 1} → statement M
-is-roomy-spec = tie.close (tie.spec returns returns-2 returns-3)
+is-roomy-spec = tie.close (tie.spec returns is-roomy-requires returns-2)

@@ -1,9 +1,8 @@
 -- Header, text and uri are put, each into its own output.
-use borrow.Author.Tests.{leb-true}
 use Rattle.octets.specs.Text.{bytes}
-use Rattle.octets.proofs.Tests.{each-of}
-use Rattle.convert.specs.WorkingConvert.{roomy, alertGiven}
+use Rattle.convert.specs.WorkingConvert.{alertGiven}
 use Rattle.convert.specs.Convert.{answerOf}
+use Rattle.convert.proofs.Outcomes.{rooms}
 use borrow.Author.Needs.{needs}
 use Rattle.convert.proofs.write.Statement.{statement}
 use Rattle.convert.proofs.write.Tie as tie
@@ -18,16 +17,13 @@ equal-requires : tie.Need-equal-requires
 equal-requires c κs = search needs
 
 put-header-requires : tie.Need-put-header-requires
-unfolding roomy
-put-header-requires c κs = let p = c .before .before .before .before .before .before .before .before .before .before .before .before .before .before .before .pre in (p .named, (p .body, leb-true _ _ (each-of _ (p .room) .0)))
+put-header-requires c κs = let p = c .before .before .before .before .before .before .before .before .before .before .before .before .before .before .before .pre in (p .named, (p .body, rooms _ _ _ (p .room) .0))
 
 put-text-requires : tie.Need-put-text-requires
-unfolding roomy
-put-text-requires c κs = let p = c .before .before .before .before .before .before .before .before .before .before .before .before .before .before .before .before .before .before .before .pre in (leb-true _ _ (each-of _ (p .room) .1 .0), p .body)
+put-text-requires c κs = let p = c .before .before .before .before .before .before .before .before .before .before .before .before .before .before .before .before .before .before .before .pre in (rooms _ _ _ (p .room) .1, p .body)
 
 put-uri-requires : tie.Need-put-uri-requires
-unfolding roomy
-put-uri-requires c κs = let p = c .before .before .before .before .before .before .before .before .before .before .before .before .before .before .before .before .before .before .before .before .before .before .before .pre in (p .fits, leb-true _ _ (each-of _ (p .room) .1 .1 .0))
+put-uri-requires c κs = let p = c .before .before .before .before .before .before .before .before .before .before .before .before .before .before .before .before .before .before .before .before .before .before .before .pre in (p .fits, rooms _ _ _ (p .room) .2)
 
 same-length : tie.Need-same-length
 same-length c = search needs

@@ -8,10 +8,10 @@ use borrow.Author.Tests.{eq-eqb, ne-eqb}
 use lib.ListN.{length, length-take}
 use lib.Seq.{sets, take-all}
 use Rattle.values.specs.Value.{valueAt}
-use Rattle.convert.specs.WorkingConvert.{uriIn}
+use Rattle.outputs.specs.WorkingOutputs.{uriIn}
 use borrow.Author.Needs.{needs}
-use Rattle.convert.proofs.put_uri.Statement.{statement}
-use Rattle.convert.proofs.put_uri.Tie as tie
+use Rattle.outputs.proofs.put_uri.Statement.{statement}
+use Rattle.outputs.proofs.put_uri.Tie as tie
 
 returns : tie.Need-returns
 unfolding uriIn

@@ -1,0 +1,31 @@
+-- A call that gives text and audio and no header: everything that it answers and writes.
+use Prim.Native.Nat.{ℕ}
+use mathlib.Core.List.{List, []}
+use lib.ListN.{length}
+use Rattle.outputs.specs.declared.TextAudio.{TextAudio}
+
+-- the text, the audio number and the uri
+pub record TextGiven : Type 0 where
+  pub text : List ℕ
+  pub audio : ℕ
+  pub uri : List ℕ
+
+-- no text or audio
+abbrev pub noText : TextGiven
+noText = record { text = []; audio = 0; uri = [] }
+
+-- the number, the field, and what is written from the start of each output; bytes past it stay, so that where nothing is written nothing is touched
+pub record TextOutcome : Type 0 where
+  pub number : ℕ
+  pub field : ℕ
+  pub given : TextGiven
+
+-- what the call returns: lengths in place of bytes
+unfoldable pub textAnswerOf : TextOutcome → TextAudio
+textAnswerOf o = record {
+  number = o .number;
+  field = o .field;
+  audio = o .given .audio;
+  uri = length (o .given .uri);
+  text = length (o .given .text);
+}

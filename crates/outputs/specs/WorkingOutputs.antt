@@ -1,0 +1,21 @@
+-- The outputs of text and audio, as the code asks them and fills them.
+use Prim.Native.Nat.{ℕ}
+use mathlib.Core.Bool.{Bool}
+use mathlib.Core.List.{List, [], _∷_}
+use lib.Dec.{eqb, leb}
+use Rattle.octets.specs.Bytes.{pick, every, holds}
+use Rattle.values.specs.Value.{valueAt}
+use Rattle.reads.specs.declared.Audio.{Audio}
+use Rattle.outputs.specs.Outputs.{noText, TextOutcome}
+
+-- lent output short: text 1,800, uri 1,024
+unfoldable pub roomyText : ℕ → ℕ → Bool
+roomyText text uri = every holds (leb 1800 text ∷ leb 1024 uri ∷ [])
+
+-- the uri of the audio choice; none without audio
+unfoldable pub uriIn : List ℕ → Audio → List ℕ
+uriIn s a = pick (eqb (a .number) 0) [] (valueAt s (a .uri))
+
+-- a refusal returns its number, and its field after 7, zeros elsewhere, and touches nothing lent
+abbrev pub textRefused : ℕ → ℕ → TextOutcome
+textRefused number field = record { number = number; field = field; given = noText }
