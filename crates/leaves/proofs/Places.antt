@@ -64,7 +64,7 @@ module _ (s : List ℕ) where
   nothing-in = record {
     leaf = (omega arith, (omega arith, (omega arith, (omega arith, (omega arith, tt)))));
     events = omega arith;
-    parameters = (omega arith, (omega arith, (omega arith, tt)));
+    parameters = (omega arith, (omega arith, (omega arith, (omega arith, tt))));
     audio = omega arith;
   }
 
@@ -147,7 +147,7 @@ module _ (s p : List ℕ) where
     events = fold-keeps s (EventsIn s) (withEvent s p) (λ x e q a. event-in s x (leafIn s p "valueName" (e .holds)) (leafIn s p "value" (e .holds)) (leaf-inside "value" (e .holds) a))
         (named s p "eventCode" t) (named-real "eventCode" t r) (noInfo (length s) .events) (omega arith);
     parameters = fold-keeps s (ParametersIn s) (withParameter s p) (λ x e q a. parameter-in s x (leafIn s p "valueName" (e .holds)) (leafIn s p "value" (e .holds)) (leaf-inside "value" (e .holds) a))
-        (named s p "parameter" t) (named-real "parameter" t r) (noInfo (length s) .parameters) (omega arith, (omega arith, (omega arith, tt)));
+        (named s p "parameter" t) (named-real "parameter" t r) (noInfo (length s) .parameters) (omega arith, (omega arith, (omega arith, (omega arith, tt))));
     audio = fold-keeps s (AudioIn s) (withResource s p) (λ x e q a. audio-in s x (leafIn s p "mimeType" (e .holds)) (leafIn s p "uri" (e .holds)) (leaf-inside "uri" (e .holds) a))
         (named s p "resource" t) (named-real "resource" t r) (noInfo (length s) .audio) (omega arith);
   }

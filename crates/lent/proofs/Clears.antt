@@ -140,9 +140,9 @@ pub five-leaves : (l : List ℕ) (a : ℕ)
 unfolding lentLeaves
 five-leaves l a = rw (add-assoc a 3 3, add-assoc a 6 3, add-assoc a 9 3)
 
-pub parameter-leaves : (l : List ℕ) (a : ℕ) → lentLeaves parameterCount l (a + 1) ≡ lentLeaf l (a + 1) ∷ lentLeaf l (a + 4) ∷ lentLeaf l (a + 7) ∷ []
+pub parameter-leaves : (l : List ℕ) (a : ℕ) → lentLeaves parameterCount l (a + 1) ≡ lentLeaf l (a + 1) ∷ lentLeaf l (a + 4) ∷ lentLeaf l (a + 7) ∷ lentLeaf l (a + 10) ∷ []
 unfolding lentLeaves
-parameter-leaves l a = rw (add-assoc a 1 3, add-assoc a 4 3)
+parameter-leaves l a = rw (add-assoc a 1 3, add-assoc a 4 3, add-assoc a 7 3)
 
 -- ---- an info
 

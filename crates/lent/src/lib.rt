@@ -185,7 +185,12 @@ fn parameters_at(st: &[usize], a: usize) -> Parameters
 {
     Parameters {
         fault: st[a] != 0,
-        leaf: [leaf_at(st, a + 1), leaf_at(st, a + 4), leaf_at(st, a + 7)],
+        leaf: [
+            leaf_at(st, a + 1),
+            leaf_at(st, a + 4),
+            leaf_at(st, a + 7),
+            leaf_at(st, a + 10),
+        ],
     }
 }
 

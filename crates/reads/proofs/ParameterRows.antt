@@ -1,20 +1,24 @@
 -- What one parameter, of the name w and the value v, adds to the leaves of a table.
 --     row-step, rows-long       the leaf of each row; how many leaves there are
 --     own-row, no-row-of-it     where a parameter is of one row at most, its own leaf alone changes
---     apart                     the parameters that are read are so
-use Prim.Native.Nat.{ℕ, zero, suc, _≤_, _<_}
+--     exact-row, behind-exact   a row of an exact name is told by the name's place among them, one behind these by what stands there
+--     broadcast-row             the last row by its tests
+--     apart                     a parameter that is read is of one row at most
+use Prim.Native.Nat.{ℕ, zero, suc, _+_, _≤_, _<_}
+use Prim.Native.String.{String}
 use mathlib.Core.Path.{_≡_, refl, ap, _∙_}
-use mathlib.Core.Bool.{Bool, true, false}
-use mathlib.Core.List.{List, [], _∷_}
+use mathlib.Core.Bool.{Bool, true, false, _&&_, not}
+use mathlib.Core.List.{List, [], _∷_, _++_, map}
 use native.Mathlib.Omega.{arith}
 use lib.ListN.{length, getD, set}
-use Rattle.octets.specs.Bytes.{pick, same}
+use Rattle.octets.specs.Bytes.{pick, every, same, between, isCapital}
 use Rattle.octets.specs.Text.{bytes}
 use Rattle.octets.proofs.Sames.{same-is}
-use Rattle.values.specs.Value.{valueAt}
+use Rattle.values.specs.Value.{valueAt, small}
+use Rattle.words.specs.WorkingWords.{whichOf}
 use Rattle.reads.specs.declared.Leaf.{Leaf}
 use Rattle.reads.specs.WorkingLeaves.{noLeaf, found}
-use Rattle.reads.specs.Parameters.{ReadParameter, exactly, easText, easMustCarry, readParameters, isOf}
+use Rattle.reads.specs.Parameters.{ReadParameter, exactly, easText, easMustCarry, broadcastText, readParameters, isOf}
 use Rattle.reads.specs.WorkingSteps.{rowStep, rowsStep, rowOf}
 
 module _ (s : List ℕ) (name value : Leaf) where
@@ -71,15 +75,53 @@ module _ (s : List ℕ) (name value : Leaf) where
       go true n others rest = ap (λ xs. found l (value .at) ∷ xs) (others refl)
       go false n others rest = ap (λ xs. l ∷ xs) (rest (omega (arith, n)))
 
+-- ---- rows of exact names before others
+
+module _ (w v : List ℕ) where
+  -- the place of the name among these words
+  abbrev placeIn : List String → ℕ
+  placeIn ws = whichOf (map bytes ws) w
+
+  abbrev rowIn : List String → List ReadParameter → ℕ
+  rowIn ws rest = rowOf (map exactly ws ++ rest) w v
+
+  pub exact-row : (ws : List String) (rest : List ReadParameter) → placeIn ws < length ws → placeIn ws ≡ rowIn ws rest
+  unfolding rowOf whichOf
+  exact-row [] rest h = absurd (omega (arith, h))
+  exact-row (x ∷ ws) rest h = go (same w (bytes x)) h (exact-row ws rest)
+    where
+      go : (b : Bool) → pick b 0 (suc (placeIn ws)) < suc (length ws) → (placeIn ws < length ws → placeIn ws ≡ rowIn ws rest) → pick b 0 (suc (placeIn ws)) ≡ pick b 0 (suc (rowIn ws rest))
+      go true n rest = refl
+      go false n rest = ap suc (rest (omega (arith, n)))
+
+  pub behind-exact : (ws : List String) (rest : List ReadParameter) → length ws ≤ placeIn ws → length ws + rowOf rest w v ≡ rowIn ws rest
+  unfolding rowOf whichOf
+  behind-exact [] rest h = omega arith
+  behind-exact (x ∷ ws) rest h = go (same w (bytes x)) h (behind-exact ws rest)
+    where
+      go : (b : Bool) → suc (length ws) ≤ pick b 0 (suc (placeIn ws)) → (length ws ≤ placeIn ws → length ws + rowOf rest w v ≡ rowIn ws rest)
+          → suc (length ws) + rowOf rest w v ≡ pick b 0 (suc (rowIn ws rest))
+      go true n more = absurd (omega (arith, n))
+      go false n more = let e = more (omega (arith, n)) in omega (arith, e)
+
 -- ---- the parameters that are read
+
+-- the one of any letter case, by its tests
+pub broadcast-row : (w v : List ℕ) (b c : Bool) → same (map small w) (bytes "layer:aea:2.0:broadcasttext") ≡ b → same v [] ≡ c
+    → rowOf (broadcastText ∷ []) w v ≡ pick (b && not c) 0 1
+unfolding rowOf bytes small isCapital between every
+broadcast-row w v b c p q = rw (p, q)
 
 -- one of exactly this name is of no row that has another
 others : (x : List ℕ) (rows : List ReadParameter) (w v : List ℕ) → length rows ≤ rowOf rows x v → same w x ≡ true → length rows ≤ rowOf rows w v
 others x rows w v h e = rw (same-is w x e) h
 
 pub apart : (w v : List ℕ) → Apart readParameters w v
-unfolding rowOf bytes same
+unfolding rowOf bytes same small isCapital between every
 apart w v = (
-  others (bytes "EAS-ORG") (easText ∷ easMustCarry ∷ []) w v (omega arith),
-  (others (bytes "EASText") (easMustCarry ∷ []) w v (omega arith), (others (bytes "EAS-Must-Carry") [] w v (omega arith), tt)),
+  others (bytes "EAS-ORG") (easText ∷ easMustCarry ∷ broadcastText ∷ []) w v (omega arith),
+  (
+    others (bytes "EASText") (easMustCarry ∷ broadcastText ∷ []) w v (omega arith),
+    (others (bytes "EAS-Must-Carry") (broadcastText ∷ []) w v (omega arith), (λ e. omega arith, tt)),
+  ),
 )

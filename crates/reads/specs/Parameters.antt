@@ -18,7 +18,7 @@ pub record ReadParameter : Type 0 where
 abbrev pub exactly : String → ReadParameter
 exactly w = record { name = w; anyCase = false; nonEmpty = false }
 
--- ---- of each the first in message order is read
+-- ---- of each the first value that counts, in message order, is read
 
 abbrev pub easOrg : ReadParameter
 easOrg = exactly "EAS-ORG"
@@ -29,8 +29,12 @@ easText = exactly "EASText"
 abbrev pub easMustCarry : ReadParameter
 easMustCarry = exactly "EAS-Must-Carry"
 
+-- a parameter named `layer:AEA:2.0:broadcastText`, name in any letter case: the first non-empty value
+abbrev pub broadcastText : ReadParameter
+broadcastText = record { name = "layer:AEA:2.0:broadcastText"; anyCase = true; nonEmpty = true }
+
 abbrev pub readParameters : List ReadParameter
-readParameters = easOrg ∷ easText ∷ easMustCarry ∷ []
+readParameters = easOrg ∷ easText ∷ easMustCarry ∷ broadcastText ∷ []
 
 abbrev pub parameterCount : ℕ
 parameterCount = length readParameters

@@ -109,3 +109,6 @@ easTextLeaf i = getD (i .parameters .leaf) 1 (noLeaf 0)
 
 abbrev pub mustCarryLeaf : Info → Leaf
 mustCarryLeaf i = getD (i .parameters .leaf) 2 (noLeaf 0)
+
+abbrev pub broadcastLeaf : Info → Leaf
+broadcastLeaf i = getD (i .parameters .leaf) 3 (noLeaf 0)

@@ -29,7 +29,9 @@ pub const EAS_TEXT: usize = 1;
 
 pub const MUST_CARRY: usize = 2;
 
-pub const PARAMETERS: usize = 3;
+pub const BROADCAST_TEXT: usize = 3;
+
+pub const PARAMETERS: usize = 4;
 
 // The parameters that are read; and whether one is at fault.
 pub struct Parameters {
@@ -395,7 +397,17 @@ pub fn event_step(s: &[u8], e: Events, name: Leaf, value: Leaf) -> Events
 pub fn parameter_row(s: &[u8], name: usize, value: usize) -> usize
     ensures { λ r. ⌜ r ≡ rowOf readParameters (valueAt (now (s .entry)) name) (valueAt (now (s .entry)) value) ⌝ }
 {
-    words::which_value(s, name, b"\x07\x07\x0e", b"EAS-ORGEASTextEAS-Must-Carry")
+    let k = words::which_value(s, name, b"\x07\x07\x0e", b"EAS-ORGEASTextEAS-Must-Carry");
+    if k < BROADCAST_TEXT {
+        return k;
+    }
+    if !values::equal_any_case(s, name, b"layer:aea:2.0:broadcasttext") {
+        return PARAMETERS;
+    }
+    if values::is_empty(s, value) {
+        return PARAMETERS;
+    }
+    BROADCAST_TEXT
 }
 
 // The audio number of a mimeType, and 0 of any other.

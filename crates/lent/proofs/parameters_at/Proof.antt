@@ -28,8 +28,20 @@ add-leaf-at-3 c = search needs
 leaf-at-requires-3 : tie.Need-leaf-at-requires-3
 leaf-at-requires-3 c κs = search needs
 
+add-leaf-at-4 : tie.Need-add-leaf-at-4
+add-leaf-at-4 c = search needs
+
+leaf-at-requires-4 : tie.Need-leaf-at-requires-4
+leaf-at-requires-4 c κs = search needs
+
 returns : tie.Need-returns
-returns c = rw (parameter-leaves _ _, c .leaf-at3 .ensures, c .before .leaf-at2 .ensures, c .before .before .leaf-at .ensures)
+returns c = rw (
+  parameter-leaves _ _,
+  c .leaf-at4 .ensures,
+  c .before .leaf-at3 .ensures,
+  c .before .before .leaf-at2 .ensures,
+  c .before .before .before .leaf-at .ensures,
+)
 
 pub parameters-at-spec : {M : Type 1} → statement M
 parameters-at-spec =
@@ -43,4 +55,6 @@ parameters-at-spec =
     leaf-at-requires-2
     add-leaf-at-3
     leaf-at-requires-3
+    add-leaf-at-4
+    leaf-at-requires-4
     returns)
