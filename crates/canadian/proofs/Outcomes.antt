@@ -1,0 +1,70 @@
+-- The outcome of the Canadian mode, by what was found: a message s, and outputs of t and u bytes.
+--     short, refused, told      an output short; a number of the message; what it gives
+--     no-words, some-words      of a message that passed 4 to 9, by how long its text is
+use Prim.Native.Nat.{ℕ, _≤_}
+use mathlib.Core.Path.{_≡_, refl, sym, ap, _∙_}
+use mathlib.Core.Bool.{Bool, true, false}
+use mathlib.Core.List.{List}
+use borrow.Author.Tests.{ne-eqb, eq-eqb}
+use lib.ListN.{length}
+use lib.Seq.{sets}
+use lib.Dec.{eqb}
+use Rattle.octets.specs.Bytes.{pick}
+use Rattle.octets.proofs.Tests.{either-way}
+use Rattle.message.specs.WorkingMessage.{messageSays}
+use Rattle.message.specs.declared.Message.{Message}
+use Rattle.leaves.proofs.Fits.{audio-fits}
+use Rattle.outputs.specs.Outputs.{TextOutcome, textAnswerOf}
+use Rattle.outputs.specs.WorkingOutputs.{roomyText, uriIn, textRefused}
+use Rattle.outputs.specs.declared.TextAudio.{TextAudio}
+use Rattle.outputs.proofs.Fits.{uri-fits}
+use Rattle.canadian.specs.WorkingCanadian.{textGiven, infoSays, broadcastIn, descriptionIn, instructionIn, canadianGiven, worded, canadianBy, canadianOf}
+use Rattle.canadian.proofs.Texts.{Puts, long-some, long-none}
+
+-- an answer and both outputs at exit, as the outcome has them
+abbrev pub Answers : TextOutcome → TextAudio → List ℕ → List ℕ → List ℕ → List ℕ → Type 0
+Answers o r text uri x y = (r ≡ textAnswerOf o) × ((x ≡ sets text 0 (o .given .text)) × (y ≡ sets uri 0 (o .given .uri)))
+
+-- nothing is written where nothing is given
+pub untouched : (o : TextOutcome) (r : TextAudio) (text uri : List ℕ) (n f : ℕ) → o ≡ textRefused n f → r ≡ textAnswerOf (textRefused n f) → Answers o r text uri text uri
+untouched o r text uri n f e h = (h ∙ ap textAnswerOf (sym e), (rw e, rw e))
+
+module _ (s : List ℕ) (t u : ℕ) where
+  pub short : roomyText t u ≡ false → canadianOf s t u ≡ textRefused 2 0
+  unfolding canadianOf
+  short e = rw e
+
+  module _ (room : roomyText t u ≡ true) (m : Message) (says : m ≡ messageSays s) where
+    outcome : canadianOf s t u ≡ canadianBy s m
+    unfolding canadianOf
+    outcome = rw (room, says)
+
+    pub refused : (m .number ≡ 0 → ⊥) → canadianOf s t u ≡ textRefused (m .number) (m .field)
+    unfolding canadianBy
+    refused e = outcome ∙ rw (ne-eqb (m .number) 0 e)
+
+    pub told : m .number ≡ 0 → canadianOf s t u ≡ worded s m
+    unfolding canadianBy
+    told e = outcome ∙ rw (eq-eqb (m .number) 0 e)
+
+    -- the uri that it gives fits
+    pub fits : length (uriIn s (infoSays m .audio)) ≤ 1024
+    fits = rw says (uri-fits s (infoSays (messageSays s) .audio) (audio-fits s))
+
+-- ---- what is written
+
+module _ (s : List ℕ) (m : Message) (text : List ℕ) {x : List ℕ} {n : ℕ}
+    (put : Puts text (textGiven (broadcastIn s m) (descriptionIn s m) (instructionIn s m)) x n) where
+  -- the text is empty, and 18 is answered
+  pub no-words : {r : TextAudio} {uri : List ℕ} → n ≡ 0 → r ≡ textAnswerOf (textRefused 18 (m .field)) → Answers (worded s m) r text uri x uri
+  unfolding worded textGiven
+  no-words h answer =
+      let e = long-none (broadcastIn s m) (descriptionIn s m) (instructionIn s m) (sym (put .0) ∙ h) in
+      rw e (answer, (rw e at (put .1), refl))
+
+  pub some-words : (uri : List ℕ) {y : List ℕ} {k : ℕ} → (n ≡ 0 → ⊥) → (k ≡ length (uriIn s (infoSays m .audio))) × (y ≡ sets uri 0 (uriIn s (infoSays m .audio)))
+      → Answers (worded s m) (record { number = 0; field = m .field; audio = infoSays m .audio .number; uri = k; text = n }) text uri x y
+  unfolding worded textGiven canadianGiven textAnswerOf
+  some-words uri h linked =
+      let e = long-some (broadcastIn s m) (descriptionIn s m) (instructionIn s m) (λ z. h (put .0 ∙ z)) in
+      rw e (rw (linked .0, rw e at (put .0)), (rw e at (put .1), linked .1))

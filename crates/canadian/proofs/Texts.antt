@@ -1,0 +1,99 @@
+-- The text as it is put: the broadcast text b, or description d and instruction i.
+--     put-whole, put-none, put-both      by what was put of b and of d
+--     long-some, long-none               whether there is a text, by how long it is
+--     text-short                         it has at most 1,800 characters
+use Prim.Native.Nat.{ℕ, _+_, _-_, _≤_, _<_}
+use mathlib.Core.Path.{_≡_, refl, sym, ap, _∙_}
+use mathlib.Core.Bool.{Bool, true, false, _&&_}
+use mathlib.Core.List.{List, [], _∷_, _++_}
+use native.Mathlib.Omega.{arith}
+use lib.ListN.{length, take, length-take, length-append}
+use lib.Seq.{sets}
+use Rattle.octets.specs.Bytes.{pick, same}
+use Rattle.octets.proofs.Sames.{same-is}
+use Rattle.octets.proofs.Runs.{Run}
+use Rattle.sentence.proofs.Puts.{Put, first}
+use Rattle.wording.specs.Text.{most, plain, empty, afterSpace}
+use Rattle.wording.proofs.Cuts.{plain-short, plain-next, none-long, some-long}
+use Rattle.wording.proofs.Texts.{put-start}
+use Rattle.canadian.specs.Canadian.{canadianText}
+use Rattle.canadian.specs.WorkingCanadian.{wordless, textGiven}
+
+-- ---- a value by what was put of it
+
+put-some : (v : List ℕ) → (length (plain v) ≡ 0 → ⊥) → empty v ≡ false
+put-some v h = go (empty v) refl
+  where
+    go : (b : Bool) → empty v ≡ b → empty v ≡ false
+    go true e = absurd (h (omega (arith, none-long v e, length-take most v)))
+    go false e = e
+
+put-empty : (v : List ℕ) → length (plain v) ≡ 0 → empty v ≡ true
+put-empty v h = go (empty v) refl
+  where
+    go : (b : Bool) → empty v ≡ b → empty v ≡ true
+    go true e = e
+    go false e = absurd (omega (arith, h, some-long v e, length-take most v))
+
+-- ---- the text
+
+abbrev pub Puts : List ℕ → List ℕ → List ℕ → ℕ → Type 0
+Puts d t x r = (r ≡ length t) × (x ≡ sets d 0 t)
+
+module _ (b d i : List ℕ) where
+  whole : empty b ≡ false → textGiven b d i ≡ plain b
+  unfolding textGiven canadianText
+  whole h = rw h
+
+  both : empty b ≡ true → empty d ≡ false → textGiven b d i ≡ plain (d ++ afterSpace i)
+  unfolding textGiven canadianText
+  both h k = rw (h, k)
+
+  none : empty b ≡ true → empty d ≡ true → textGiven b d i ≡ []
+  unfolding textGiven
+  none h k = rw (h, k)
+
+  module _ (o : List ℕ) {x : List ℕ} {n : ℕ} (put : Puts o (plain b) x n) where
+    pub put-whole : (n ≡ 0 → ⊥) → Puts o (textGiven b d i) x n
+    put-whole h = rw (whole (put-some b (λ e. h (put .0 ∙ e)))) put
+
+    -- nothing of b was put, and the output is as it was
+    stays : n ≡ 0 → x ≡ o
+    stays h = put .1 ∙ ap (λ (v : List ℕ). sets o 0 (plain v)) (same-is b [] (put-empty b (sym (put .0) ∙ h)))
+
+    module _ {y : List ℕ} {m : ℕ} (no : n ≡ 0) (next : Puts x (plain d) y m) where
+      pub put-none : m ≡ 0 → Puts o (textGiven b d i) y 0
+      put-none h =
+          let e = put-empty d (sym (next .0) ∙ h) in
+          rw (none (put-empty b (sym (put .0) ∙ no)) e)
+          (refl, next .1 ∙ ap (λ (v : List ℕ). sets x 0 (plain v)) (same-is d [] e) ∙ stays no)
+
+      pub put-both : {z : List ℕ} {r : ℕ} → (m ≡ 0 → ⊥) → Put y m (take (most - m) (afterSpace i)) z r → Puts o (textGiven b d i) z r
+      put-both h last =
+          let begun = first o 0 (plain d) (next .0 ∙ omega arith, next .1 ∙ ap (λ (l : List ℕ). sets l 0 (plain d)) (stays no)) in
+          put-start (plain-next d i begun last) _ (both (put-empty b (sym (put .0) ∙ no)) (put-some d (λ e. h (next .0 ∙ e))))
+
+  -- ---- whether there is one
+
+  pub long-some : (length (textGiven b d i) ≡ 0 → ⊥) → wordless b d ≡ false
+  unfolding textGiven
+  long-some h = go (wordless b d) refl
+    where
+      go : (c : Bool) → wordless b d ≡ c → wordless b d ≡ false
+      go true e = absurd (h (rw e))
+      go false e = e
+
+  pub long-none : length (textGiven b d i) ≡ 0 → wordless b d ≡ true
+  unfolding textGiven canadianText
+  long-none h = go (empty b) refl (empty d) refl
+    where
+      go : (p : Bool) → empty b ≡ p → (q : Bool) → empty d ≡ q → wordless b d ≡ true
+      go false e q f = absurd (omega (arith, ap length (sym (whole e)) ∙ h, some-long b e, length-take most b))
+      go true e true f = rw (e, f)
+      go true e false f =
+          absurd (omega (arith, ap length (sym (both e f)) ∙ h, some-long d f, length-take most (d ++ afterSpace i), length-append d (afterSpace i)))
+
+-- what was said once is so here: a text has at most 1,800 characters
+pub text-short : (b d i : List ℕ) → length (canadianText b d i) ≤ 1800
+unfolding canadianText
+text-short b d i = plain-short (pick (empty b) (d ++ afterSpace i) b)

@@ -1,0 +1,2 @@
+pub mod Canadian
+pub mod WorkingCanadian
