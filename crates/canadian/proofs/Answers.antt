@@ -1,0 +1,70 @@
+-- What the Canadian mode returns, whatever it is lent.
+--     canadian-small     every part of it fits a few bits
+--     canadian-refused   a refusal has its number and its field, and nothing else
+--     field-beside       a field only beside number 7
+use Prim.Native.Nat.{ℕ, _≤_}
+use mathlib.Core.Path.{_≡_, refl}
+use mathlib.Core.List.{List}
+use native.Mathlib.Omega.{arith}
+use borrow.Author.Tests.{eqb-true}
+use lib.Dec.{eqb}
+use Rattle.octets.proofs.Tests.{either-way}
+use Rattle.message.specs.WorkingMessage.{messageSays}
+use Rattle.leaves.proofs.Fits.{audio-number, audio-fits, number-small, field-small, field-zero}
+use Rattle.outputs.specs.Outputs.{TextOutcome, textAnswerOf}
+use Rattle.outputs.specs.WorkingOutputs.{roomyText, textRefused}
+use Rattle.outputs.specs.declared.TextAudio.{TextAudio}
+use Rattle.outputs.proofs.Fits.{uri-fits}
+use Rattle.canadian.specs.WorkingCanadian.{wordless, infoSays, broadcastIn, descriptionIn, canadianGiven, worded, canadianBy, canadianOf}
+use Rattle.canadian.proofs.Texts.{text-short}
+
+pub record Small (r : TextAudio) : Type 0 where
+  pub number : r .number ≤ 18
+  pub field : r .field ≤ 7
+  pub audio : r .audio ≤ 3
+  pub uri : r .uri ≤ 1024
+  pub text : r .text ≤ 1800
+
+alone-small : (n f : ℕ) → n ≤ 18 → f ≤ 7 → Small (textAnswerOf (textRefused n f))
+unfolding textAnswerOf
+alone-small n f a b = record { number = a; field = b; audio = omega arith; uri = omega arith; text = omega arith }
+
+module _ (s : List ℕ) (t u : ℕ) where
+  -- of each outcome: of the mode
+  pub outcome-holds : (P : TextOutcome → Type 0) → P (textRefused 2 0) → P (textRefused (messageSays s .number) (messageSays s .field)) →
+      (messageSays s .number ≡ 0 → P (textRefused 18 (messageSays s .field))) →
+      (messageSays s .number ≡ 0 → P (record { number = 0; field = messageSays s .field; given = canadianGiven s (messageSays s) })) → P (canadianOf s t u)
+  unfolding canadianOf canadianBy worded
+  outcome-holds P two refuse none give =
+      let m = messageSays s in
+      either-way P (roomyText t u) _ _
+      (λ _. either-way P (eqb (m .number) 0) _ _
+      (λ z. either-way P (wordless (broadcastIn s m) (descriptionIn s m)) _ _ (λ _. none (eqb-true (m .number) 0 z)) (λ _. give (eqb-true (m .number) 0 z)))
+      (λ _. refuse))
+      (λ _. two)
+
+  given-small : Small (textAnswerOf (record { number = 0; field = messageSays s .field; given = canadianGiven s (messageSays s) }))
+  unfolding textAnswerOf canadianGiven
+  given-small = record {
+    number = omega arith;
+    field = field-small s;
+    audio = audio-number s;
+    uri = uri-fits s (infoSays (messageSays s) .audio) (audio-fits s);
+    text = text-short _ _ _;
+  }
+
+  pub canadian-small : Small (textAnswerOf (canadianOf s t u))
+  canadian-small =
+      outcome-holds (λ (o : TextOutcome). Small (textAnswerOf o)) (alone-small 2 0 (omega arith) (omega arith))
+      (alone-small _ _ (omega (arith, number-small s)) (field-small s)) (λ z. alone-small 18 _ (omega arith) (field-small s)) (λ z. given-small)
+
+  pub canadian-refused : (canadianOf s t u .number ≡ 0 → ⊥) → canadianOf s t u ≡ textRefused (canadianOf s t u .number) (canadianOf s t u .field)
+  canadian-refused =
+      outcome-holds (λ (o : TextOutcome). (o .number ≡ 0 → ⊥) → o ≡ textRefused (o .number) (o .field)) (λ e. refl) (λ e. refl) (λ z e. refl) (λ z e. absurd (e refl))
+
+  pub field-beside : (canadianOf s t u .number ≡ 7 → ⊥) → canadianOf s t u .field ≡ 0
+  field-beside =
+      outcome-holds (λ (o : TextOutcome). (o .number ≡ 7 → ⊥) → o .field ≡ 0) (λ e. refl) (field-zero s) (λ z e. none z) (λ z e. none z)
+    where
+      none : messageSays s .number ≡ 0 → messageSays s .field ≡ 0
+      none z = field-zero s (λ e. omega arith)
