@@ -8,6 +8,11 @@ use borrow.Author.Tests.{eq-eqb, ne-eqb}
 use lib.Dec.{eqb}
 use lib.ListN.{length}
 use Rattle.octets.specs.Bytes.{pick}
+use Rattle.outputs.specs.Outputs.{textAnswerOf}
+use Rattle.outputs.specs.declared.TextAudio.{TextAudio}
+use Rattle.canadian.specs.WorkingCanadian.{canadianOf}
+use Rattle.canadian.proofs.Answers as canadian
+use Rattle.canadian.proofs.Answers.{canadian-small}
 use Rattle.convert.proofs.Answers.{Small, convert-small}
 use Rattle.convert.specs.WorkingConvert.{convertOf}
 use Rattle.convert.specs.Convert.{answerOf}
@@ -17,7 +22,7 @@ use Rattle.header.proofs.WriteThenRead.{write-small}
 use Rattle.header.specs.Header.{readOf, writeOf}
 use Rattle.header.specs.declared.Read.{Read}
 use Rattle.header.specs.declared.Written.{Written}
-use Rattle.stuiverhaag.specs.Packed.{NarrowConverted, packedBody, NarrowBody, packedRead}
+use Rattle.stuiverhaag.specs.Packed.{NarrowText, NarrowConverted, packedBody, NarrowBody, packedRead}
 use Rattle.parts.specs.Originator.{originatorNumber}
 use Rattle.parts.specs.declared.Originator.{Originator}
 use Rattle.parts.specs.declared.Originator.the-variants.{Pep, Eas, Wxr, Civ}
@@ -34,6 +39,14 @@ use Rattle.offers.specs.WorkingRecords.{recordsOf}
 use Rattle.offers.specs.WorkingOffer.{offerRefusedBy, offerGiven, messageOffer}
 use Rattle.offers.specs.declared.Offered.{Offered}
 use Rattle.offers.proofs.Offering.{judged-small}
+
+-- ---- text and audio
+
+pub canadian-narrow : (s : List ℕ) (t u : ℕ) (a : TextAudio) → a ≡ textAnswerOf (canadianOf s t u) → NarrowText a
+canadian-narrow s t u a is = rw is (narrow-text (canadian-small s t u))
+  where
+    narrow-text : {a : TextAudio} → canadian.Small a → NarrowText a
+    narrow-text w = record { number = omega arith; field = omega arith; audio = omega arith; uri = omega arith; text = omega arith }
 
 -- ---- a conversion
 

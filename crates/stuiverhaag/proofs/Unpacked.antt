@@ -1,6 +1,6 @@
 -- What a host takes out of an answer, part by part as the functions of include/stuiverhaag.h do, is what was answered.
---     convert-unpacked, read-unpacked, write-unpacked, offer-unpacked, hand-out-unpacked     for each call
---     refusal-alone                                                                          a refused conversion is its number and its field
+--     convert-unpacked, canadian-unpacked, read-unpacked, write-unpacked, offer-unpacked, hand-out-unpacked    for each call
+--     refusal-alone, canadian-alone                                                          a refusal is its number and its field
 use Prim.Native.Nat.{ℕ, _+_, _*_, _/_, _%_, _≤_}
 use mathlib.Core.Bool.{Bool, true, false}
 use mathlib.Core.List.{List}
@@ -16,6 +16,10 @@ use Rattle.header.proofs.WriteThenRead.{write-small}
 use Rattle.header.specs.Header.{partsIn, refusal, headerForm, readOf, writeNumber, writeOf}
 use Rattle.header.specs.declared.Read.{Read}
 use Rattle.header.specs.declared.Written.{Written}
+use Rattle.outputs.specs.Outputs.{TextOutcome, textAnswerOf}
+use Rattle.outputs.specs.declared.TextAudio.{TextAudio}
+use Rattle.canadian.specs.WorkingCanadian.{canadianOf}
+use Rattle.canadian.proofs.Answers.{canadian-refused}
 use Rattle.convert.proofs.Answers.{convert-refused}
 use Rattle.convert.specs.Convert.{Outcome, answerOf}
 use Rattle.convert.specs.WorkingConvert.{convertOf}
@@ -24,8 +28,8 @@ use Rattle.board.specs.WorkingCalls.{handOf}
 use Rattle.board.specs.declared.Handed.{Handed}
 use Rattle.offers.specs.WorkingOffer.{messageOffer}
 use Rattle.offers.specs.declared.Offered.{Offered}
-use Rattle.stuiverhaag.proofs.Packing.{convert-narrow, read-narrow, offer-narrow, hand-narrow}
-use Rattle.stuiverhaag.specs.Packed.{bit8, bit16, bit24, bit28, bit32, bit48, bit55, packedConverted, NarrowConverted, NarrowBody, packedRead, packedWritten, packedOffered, packedHanded}
+use Rattle.stuiverhaag.proofs.Packing.{canadian-narrow, convert-narrow, read-narrow, offer-narrow, hand-narrow}
+use Rattle.stuiverhaag.specs.Packed.{bit8, bit16, bit24, bit28, bit32, bit48, bit55, packedText, packedConverted, NarrowConverted, NarrowBody, packedRead, packedWritten, packedOffered, packedHanded}
 
 -- ---- a conversion
 
@@ -55,6 +59,27 @@ pub refusal-alone : (s station : List ℕ) (h t u : ℕ) → let o = convertOf s
 unfolding answerOf
 refusal-alone s station h t u e =
     ap (λ (x : Outcome). packedConverted (answerOf x)) (convert-refused s station h t u e) ∙ omega arith
+
+-- ---- text and audio
+
+pub record HasText (n : ℕ) (t : TextAudio) : Type 0 where
+  pub number : n % 256 ≡ t .number
+  pub field : n / bit8 % 256 ≡ t .field
+  pub audio : n / bit24 % 16 ≡ t .audio
+  pub uri : n / bit32 % 65536 ≡ t .uri
+  pub text : n / bit48 % 65536 ≡ t .text
+  -- a conversion's other parts are none
+  pub no-header : n / bit16 % 256 ≡ 0
+  pub no-carry : n / bit28 % 16 ≡ 0
+
+pub canadian-unpacked : (s : List ℕ) (t u : ℕ) → let a = textAnswerOf (canadianOf s t u) in HasText (packedText a) a
+canadian-unpacked s t u =
+    let w = canadian-narrow s t u _ refl in
+    record { number = omega arith; field = omega arith; audio = omega arith; uri = omega arith; text = omega arith; no-header = omega arith; no-carry = omega arith }
+
+pub canadian-alone : (s : List ℕ) (t u : ℕ) → let o = canadianOf s t u in (o .number ≡ 0 → ⊥) → packedText (textAnswerOf o) ≡ o .number + o .field * bit8
+unfolding textAnswerOf
+canadian-alone s t u e = ap (λ (x : TextOutcome). packedText (textAnswerOf x)) (canadian-refused s t u e) ∙ omega arith
 
 -- ---- a header read
 

@@ -7,6 +7,7 @@ use Rattle.parts.specs.Originator.{originatorNumber}
 use Rattle.parts.specs.declared.Body.{Body}
 use Rattle.header.specs.declared.Read.{Read}
 use Rattle.header.specs.declared.Written.{Written}
+use Rattle.outputs.specs.declared.TextAudio.{TextAudio}
 use Rattle.convert.specs.declared.Converted.{Converted}
 use Rattle.board.specs.declared.Handed.{Handed}
 use Rattle.offers.specs.declared.Offered.{Offered}
@@ -49,6 +50,20 @@ pub record NarrowConverted (c : Converted) : Type 0 where
   pub audio : c .audio ≤ 15
   pub uri : c .uri ≤ 65535
   pub text : c .text ≤ 65535
+
+-- ---- the Canadian mode
+
+-- 8 field, 24 audio, 32 the uri's length, 48 the text's length
+abbrev pub packedText : TextAudio → ℕ
+packedText t = t .number + t .field * bit8 + t .audio * bit24 + t .uri * bit32 + t .text * bit48
+
+-- what its bits hold
+pub record NarrowText (t : TextAudio) : Type 0 where
+  pub number : t .number ≤ 255
+  pub field : t .field ≤ 255
+  pub audio : t .audio ≤ 15
+  pub uri : t .uri ≤ 65535
+  pub text : t .text ≤ 65535
 
 -- ---- reading a header
 

@@ -1,5 +1,6 @@
 // What the bench host calls from C: numbers and lent slices in, one number out. include/stuiverhaag.h declares the same.
 use convert::Converted;
+use outputs::TextAudio;
 use parts::Body;
 ghost use mathlib.Core.Path.{_≡_};
 ghost use Prim.Native.Nat.{_≤_};
@@ -8,11 +9,13 @@ ghost use lib.Seq.{sets};
 ghost use Rattle.octets.specs.Bytes.{pick};
 ghost use Rattle.parts.specs.WorkingAsked.{askedParts};
 ghost use Rattle.header.specs.Header.{readOf, writeOf, writeBytes};
+ghost use Rattle.outputs.specs.Outputs.{textAnswerOf};
+ghost use Rattle.canadian.specs.WorkingCanadian.{canadianOf};
 ghost use Rattle.convert.specs.WorkingConvert.{convertOf};
 ghost use Rattle.convert.specs.Convert.{answerOf};
 ghost use Rattle.board.specs.WorkingCalls.{handOf};
 ghost use Rattle.offers.specs.WorkingOffer.{messageOffer};
-ghost use Rattle.stuiverhaag.specs.Packed.{bit28, packedConverted, NarrowConverted, packedBody, NarrowBody, packedRead, packedWritten, packedOffered, packedHanded};
+ghost use Rattle.stuiverhaag.specs.Packed.{bit28, packedText, NarrowText, packedConverted, NarrowConverted, packedBody, NarrowBody, packedRead, packedWritten, packedOffered, packedHanded};
 
 // What a bit counts.
 const BIT8: u64 = 256;
@@ -29,6 +32,31 @@ const BIT48: u64 = 281474976710656;
 
 const BIT55: u64 = 36028797018963968;
 
+// ---- text and audio
+
+fn pack_text(t: TextAudio) -> u64
+    requires { ⌜ NarrowText t ⌝ }
+    ensures { λ r. ⌜ r ≡ packedText t ⌝ }
+{
+    let number = t.number as u64;
+    let field = t.field as u64;
+    let audio = t.audio as u64;
+    let uri = t.uri as u64;
+    let text = t.text as u64;
+    number + field * BIT8 + audio * BIT24 + uri * BIT32 + text * BIT48
+}
+
+// Gives the text and the uri of a message in the Canadian mode, from the start of each output, or 2, 4 to 9 and 18 and nothing written.
+#[no_mangle]
+pub extern "C" fn stuiverhaag_canadian(message: &[u8], text: &mut [u8], uri: &mut [u8]) -> u64
+    ensures { λ r. ⌜ r ≡ packedText (textAnswerOf (canadianOf (now (message .entry)) (length (now (text .entry))) (length (now (uri .entry))))) ⌝ }
+    ensures { λ _. ⌜ now (text .exit) ≡ sets (now (text .entry)) 0 (canadianOf (now (message .entry)) (length (now (text .entry))) (length (now (uri .entry))) .given .text) ⌝ }
+    ensures { λ _. ⌜ now (uri .exit) ≡ sets (now (uri .entry)) 0 (canadianOf (now (message .entry)) (length (now (text .entry))) (length (now (uri .entry))) .given .uri) ⌝ }
+{
+    let t = canadian::convert(message, text, uri);
+    pack_text(t)
+}
+
 // ---- a conversion
 
 fn pack_carry(carry: bool) -> u64
@@ -42,14 +70,16 @@ fn pack_converted(c: Converted) -> u64
     requires { ⌜ NarrowConverted c ⌝ }
     ensures { λ r. ⌜ r ≡ packedConverted c ⌝ }
 {
-    let number = c.number as u64;
-    let field = c.field as u64;
     let header = c.header as u64;
-    let audio = c.audio as u64;
     let carry = pack_carry(c.carry);
-    let uri = c.uri as u64;
-    let text = c.text as u64;
-    number + field * BIT8 + header * BIT16 + audio * BIT24 + carry + uri * BIT32 + text * BIT48
+    let t = TextAudio {
+        number: c.number,
+        field: c.field,
+        audio: c.audio,
+        uri: c.uri,
+        text: c.text,
+    };
+    pack_text(t) + header * BIT16 + carry
 }
 
 // Converts a message: the header, the text and the uri from the start of each output, or 2 to 14 and nothing written.
