@@ -2,11 +2,12 @@
 --     canadian-small     every part of it fits a few bits
 --     canadian-refused   a refusal has its number and its field, and nothing else
 --     field-beside       a field only beside number 7
+--     canadian-gives     after 0, all that the message gives
 use Prim.Native.Nat.{ℕ, _≤_}
 use mathlib.Core.Path.{_≡_, refl}
 use mathlib.Core.List.{List}
 use native.Mathlib.Omega.{arith}
-use borrow.Author.Tests.{eqb-true}
+use borrow.Author.Tests.{eqb-true, eqb-false}
 use lib.Dec.{eqb}
 use Rattle.octets.proofs.Tests.{either-way}
 use Rattle.message.specs.WorkingMessage.{messageSays}
@@ -31,7 +32,8 @@ alone-small n f a b = record { number = a; field = b; audio = omega arith; uri =
 
 module _ (s : List ℕ) (t u : ℕ) where
   -- of each outcome: of the mode
-  pub outcome-holds : (P : TextOutcome → Type 0) → P (textRefused 2 0) → P (textRefused (messageSays s .number) (messageSays s .field)) →
+  pub outcome-holds : (P : TextOutcome → Type 0) → P (textRefused 2 0) →
+      ((messageSays s .number ≡ 0 → ⊥) → P (textRefused (messageSays s .number) (messageSays s .field))) →
       (messageSays s .number ≡ 0 → P (textRefused 18 (messageSays s .field))) →
       (messageSays s .number ≡ 0 → P (record { number = 0; field = messageSays s .field; given = canadianGiven s (messageSays s) })) → P (canadianOf s t u)
   unfolding canadianOf canadianBy worded
@@ -40,7 +42,7 @@ module _ (s : List ℕ) (t u : ℕ) where
       either-way P (roomyText t u) _ _
       (λ _. either-way P (eqb (m .number) 0) _ _
       (λ z. either-way P (wordless (broadcastIn s m) (descriptionIn s m)) _ _ (λ _. none (eqb-true (m .number) 0 z)) (λ _. give (eqb-true (m .number) 0 z)))
-      (λ _. refuse))
+      (λ z. refuse (eqb-false (m .number) 0 z)))
       (λ _. two)
 
   given-small : Small (textAnswerOf (record { number = 0; field = messageSays s .field; given = canadianGiven s (messageSays s) }))
@@ -56,15 +58,21 @@ module _ (s : List ℕ) (t u : ℕ) where
   pub canadian-small : Small (textAnswerOf (canadianOf s t u))
   canadian-small =
       outcome-holds (λ (o : TextOutcome). Small (textAnswerOf o)) (alone-small 2 0 (omega arith) (omega arith))
-      (alone-small _ _ (omega (arith, number-small s)) (field-small s)) (λ z. alone-small 18 _ (omega arith) (field-small s)) (λ z. given-small)
+      (λ z. alone-small _ _ (omega (arith, number-small s)) (field-small s)) (λ z. alone-small 18 _ (omega arith) (field-small s)) (λ z. given-small)
 
   pub canadian-refused : (canadianOf s t u .number ≡ 0 → ⊥) → canadianOf s t u ≡ textRefused (canadianOf s t u .number) (canadianOf s t u .field)
   canadian-refused =
-      outcome-holds (λ (o : TextOutcome). (o .number ≡ 0 → ⊥) → o ≡ textRefused (o .number) (o .field)) (λ e. refl) (λ e. refl) (λ z e. refl) (λ z e. absurd (e refl))
+      outcome-holds (λ (o : TextOutcome). (o .number ≡ 0 → ⊥) → o ≡ textRefused (o .number) (o .field)) (λ e. refl) (λ z e. refl) (λ z e. refl) (λ z e. absurd (e refl))
 
   pub field-beside : (canadianOf s t u .number ≡ 7 → ⊥) → canadianOf s t u .field ≡ 0
   field-beside =
-      outcome-holds (λ (o : TextOutcome). (o .number ≡ 7 → ⊥) → o .field ≡ 0) (λ e. refl) (field-zero s) (λ z e. none z) (λ z e. none z)
+      outcome-holds (λ (o : TextOutcome). (o .number ≡ 7 → ⊥) → o .field ≡ 0) (λ e. refl) (λ z. field-zero s) (λ z e. none z) (λ z e. none z)
     where
       none : messageSays s .number ≡ 0 → messageSays s .field ≡ 0
       none z = field-zero s (λ e. omega arith)
+
+  -- after 0 the message passed 4 to 9, and gives what it has
+  pub canadian-gives : canadianOf s t u .number ≡ 0 → (messageSays s .number ≡ 0) × (canadianOf s t u .given ≡ canadianGiven s (messageSays s))
+  canadian-gives =
+      outcome-holds (λ (o : TextOutcome). o .number ≡ 0 → (messageSays s .number ≡ 0) × (o .given ≡ canadianGiven s (messageSays s)))
+      (λ e. absurd (omega (arith, e))) (λ z e. absurd (z e)) (λ z e. absurd (omega (arith, e))) (λ z e. (z, refl))

@@ -1,10 +1,11 @@
-// The case lines `convert` and `program`.
+// The case lines `convert`, `canadian` and `program`.
 use crate::lines::LENT;
 use crate::lines::ROOM;
 use convert::Converted;
 use octets::Num;
+use outputs::TextAudio;
 
-// ---- convert MESSAGE STATION HEADERCAP TEXTCAP URICAP
+// ---- the outputs
 
 // The lengths of the outputs that a line lends.
 struct Caps {
@@ -23,14 +24,10 @@ fn no_caps() -> Caps {
     }
 }
 
-// The three lengths from `at`.
-fn three_caps(asked: &[u8], at: usize) -> Caps {
-    let text_at = crate::lines::next_field(asked, at);
-    let uri_at = crate::lines::next_field(asked, text_at);
-    let Num::Value(header) = crate::lines::cap(crate::lines::field(asked, at)) else {
-        return no_caps();
-    };
-    let Num::Value(text) = crate::lines::cap(crate::lines::field(asked, text_at)) else {
+// The lengths of text and uri, from `at`.
+fn two_caps(asked: &[u8], at: usize) -> Caps {
+    let uri_at = crate::lines::next_field(asked, at);
+    let Num::Value(text) = crate::lines::cap(crate::lines::field(asked, at)) else {
         return no_caps();
     };
     let Num::Value(uri) = crate::lines::cap(crate::lines::last_field(asked, uri_at)) else {
@@ -38,11 +35,27 @@ fn three_caps(asked: &[u8], at: usize) -> Caps {
     };
     Caps {
         ok: true,
-        header: header as usize,
+        header: 0,
         text: text as usize,
         uri: uri as usize,
     }
 }
+
+// The length of the header before them.
+fn three_caps(asked: &[u8], at: usize) -> Caps {
+    let two = two_caps(asked, crate::lines::next_field(asked, at));
+    let Num::Value(header) = crate::lines::cap(crate::lines::field(asked, at)) else {
+        return no_caps();
+    };
+    Caps {
+        ok: two.ok,
+        header: header as usize,
+        text: two.text,
+        uri: two.uri,
+    }
+}
+
+// ---- convert MESSAGE STATION HEADERCAP TEXTCAP URICAP
 
 fn put_carry(out: &mut [u8], at: usize, carry: bool) -> usize {
     if carry {
@@ -96,6 +109,38 @@ pub(crate) fn convert(asked: &[u8], out: &mut [u8]) -> usize {
         v,
         out,
     )
+}
+
+// ---- canadian MESSAGE TEXTCAP URICAP
+
+fn put_canadian(out: &mut [u8], t: TextAudio, text: &[u8], uri: &[u8]) -> usize {
+    let number = crate::lines::put_decimal(out, 0, t.number);
+    let field = crate::lines::put_spaced(out, number, t.field);
+    let audio = crate::lines::put_spaced(out, field, t.audio);
+    let first = crate::lines::put_bytes(out, audio, crate::lines::front(uri, t.uri));
+    crate::lines::put_bytes(out, first, crate::lines::front(text, t.text))
+}
+
+fn canadian_with(message: &[u8], v: Caps, out: &mut [u8]) -> usize {
+    let mut text = [0u8; LENT];
+    let mut uri = [0u8; LENT];
+    let text_lent = crate::lines::front_of(&mut text, v.text);
+    let uri_lent = crate::lines::front_of(&mut uri, v.uri);
+    let t = canadian::convert(message, text_lent, uri_lent);
+    put_canadian(out, t, &text, &uri)
+}
+
+pub(crate) fn canadian(asked: &[u8], out: &mut [u8]) -> usize {
+    let v = two_caps(asked, crate::lines::next_field(asked, 0));
+    if !v.ok {
+        return crate::lines::put(out, 0, b"?");
+    }
+    let mut message = [0u8; ROOM];
+    let m = crate::lines::unhex(crate::lines::field(asked, 0), &mut message);
+    if !m.ok {
+        return crate::lines::put(out, 0, b"?");
+    }
+    canadian_with(crate::lines::front(&message, m.len), v, out)
 }
 
 // ---- program MESSAGE

@@ -31,6 +31,9 @@ fn answer(line: &[u8], out: &mut [u8]) -> usize {
     if octets::equal(call, b"convert") {
         return convert_lines::convert(asked, out);
     }
+    if octets::equal(call, b"canadian") {
+        return convert_lines::canadian(asked, out);
+    }
     if octets::equal(call, b"offer") {
         return board_lines::offer(asked, out);
     }

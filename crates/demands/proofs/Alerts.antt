@@ -3,6 +3,7 @@
 --     message-field        the lowest field at fault beside 7, and 0 beside any other number
 --     message-said         a message that passes 4 to 9 is what is said in its alert
 --     message-faultless    and then no field is at fault
+--     no-field             nor answered
 use Prim.Native.Nat.{ℕ}
 use mathlib.Core.Path.{_≡_, refl, sym, ap, _∙_}
 use mathlib.Core.Bool.{Bool, true, false, _&&_, not, or-false}
@@ -142,3 +143,7 @@ module _ (s : List ℕ) where
   message-faultless e =
       let none = none-lowest (messageRows s) refl .0 (sym message-number ∙ e) in
       faultless s (not-false (noneApplies (fieldRows s)) (each-off 3 (messageRows s) none))
+
+  -- so that the field is 0, whatever number is answered
+  pub no-field : (n : ℕ) → messageSays s .number ≡ 0 → messageSays s .field ≡ fieldBeside n s
+  no-field n z = message-field ∙ rw (z, message-faultless z .none-at-fault, pick-same {A = ℕ} (eqb n 7) 0)

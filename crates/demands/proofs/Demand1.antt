@@ -1,7 +1,8 @@
--- Demand 1 of the library: its conversion and headers (Conversions), and its calls on a board (Demand1Boards).
+-- Demand 1 of the library: its conversion and headers (Conversions), its Canadian mode (Canadian), and its calls on a board (Demand1Boards).
 use Rattle.demands.specs.Calls.{library}
 use Rattle.demands.specs.Demands.{Demand1}
 use Rattle.demands.proofs.Conversions.{convert-numbered, convert-field, convert-refused, read-numbered, read-refused, write-numbered, write-refused}
+use Rattle.demands.proofs.Canadian.{canadian-numbered, canadian-field, canadian-refused}
 use Rattle.demands.proofs.Demand1Boards.{offer-numbered, offer-field, offer-refused, hand-out-numbered, hand-out-refused, list-numbered, list-refused}
 
 pub demand-1 : Demand1 library
@@ -9,6 +10,9 @@ demand-1 = record {
   convert-numbered = convert-numbered;
   convert-field = convert-field;
   convert-refused = convert-refused;
+  canadian-numbered = canadian-numbered;
+  canadian-field = canadian-field;
+  canadian-refused = canadian-refused;
   offer-numbered = offer-numbered;
   offer-field = offer-field;
   offer-refused = offer-refused;

@@ -36,6 +36,7 @@ use Rattle.demands.specs.Demands.{Demand2}
 use Rattle.demands.proofs.Rows.{each-off}
 use Rattle.demands.proofs.Messages.{quiet-is, body-is, whole-is}
 use Rattle.demands.proofs.Conversions.{convert-holds, convert-numbered}
+use Rattle.demands.proofs.Canadian.{canadian-gives-all, canadian-short}
 
 -- ---- a message that answers 0 and is not quiet
 
@@ -122,6 +123,8 @@ demand-2 = record {
   gives-all = gives-all;
   quiet-gives-nothing = quiet-gives-nothing;
   text-short = text-short;
+  canadian-gives-all = canadian-gives-all;
+  canadian-short = canadian-short;
   header-reads-back = header-reads-back;
   read-gives-back = read-written-header;
   write-gives-back = write-gives-back;

@@ -1,8 +1,8 @@
 -- Each promise determines its result: any two results that a function's contract allows for the same arguments are equal, and so is every lent byte and row at
 -- exit. The contract is the function's own, as the toolchain reads it: Learnt says what a caller learns of lifetimes κs, arguments a, a result r and the
 -- arguments at exit x. One theorem for each function that a user may call, of which these have lent outputs:
---     convert-determined, offer-determined, hand-out-determined, list-determined, write-header-determined, program-determined
---     host-convert-determined, host-offer-determined, host-hand-out-determined, host-write-determined    for a host in C
+--     convert-determined, canadian-determined, offer-determined, hand-out-determined, list-determined, write-header-determined, program-determined
+--     host-convert-determined, host-canadian-determined, host-offer-determined, host-hand-out-determined, host-write-determined    for a host in C
 use Prim.Native.Nat.{ℕ}
 use mathlib.Core.Path.{_≡_, sym, ap₂, _∙_}
 use mathlib.Core.Bool.{Bool}
@@ -30,6 +30,8 @@ use Rattle.message.specs.declared.Message.{Message}
 use Rattle.message.proofs.read.Reads as read
 use Rattle.judgement.specs.declared.Judged.{Judged}
 use Rattle.judgement.proofs.judge.Reads as judge
+use Rattle.outputs.specs.declared.TextAudio.{TextAudio}
+use Rattle.canadian.proofs.convert.Reads as canadian
 use Rattle.convert.specs.declared.Converted.{Converted}
 use Rattle.convert.proofs.convert.Reads as convert
 use Rattle.records.proofs.is_record.Reads as is-record
@@ -46,6 +48,7 @@ use Rattle.board.proofs.list_rows.Reads as list-rows
 use Rattle.offers.specs.declared.Offered.{Offered}
 use Rattle.offers.proofs.offer.Reads as offer
 use Rattle.report.proofs.program.Reads as program
+use Rattle.stuiverhaag.proofs.stuiverhaag_canadian.Reads as host-canadian
 use Rattle.stuiverhaag.proofs.stuiverhaag_convert.Reads as host-convert
 use Rattle.stuiverhaag.proofs.stuiverhaag_read_header.Reads as host-read
 use Rattle.stuiverhaag.proofs.stuiverhaag_write_header.Reads as host-write
@@ -92,6 +95,10 @@ judge-determined κs a x x′ r r′ p q = one p q
 pub convert-determined : (κs : Lifetimes 5) (a x x′ : Slices 5) (r r′ : Converted) → convert.Learnt κs a r x → convert.Learnt κs a r′ x′ →
     (r ≡ r′) × ((now (x .1 .1 .0) ≡ now (x′ .1 .1 .0)) × ((now (x .1 .1 .1 .0) ≡ now (x′ .1 .1 .1 .0)) × (now (x .1 .1 .1 .1 .0) ≡ now (x′ .1 .1 .1 .1 .0))))
 convert-determined κs a x x′ r r′ p q = (one (p .0) (q .0), (one (p .1 .0) (q .1 .0), (one (p .1 .1 .0) (q .1 .1 .0), one (p .1 .1 .1) (q .1 .1 .1))))
+
+pub canadian-determined : (κs : Lifetimes 3) (a x x′ : Slices 3) (r r′ : TextAudio) → canadian.Learnt κs a r x → canadian.Learnt κs a r′ x′ →
+    (r ≡ r′) × ((now (x .1 .0) ≡ now (x′ .1 .0)) × (now (x .1 .1 .0) ≡ now (x′ .1 .1 .0)))
+canadian-determined κs a x x′ r r′ p q = (one (p .0) (q .0), (one (p .1 .0) (q .1 .0), one (p .1 .1) (q .1 .1)))
 
 -- ---- boards
 
@@ -142,6 +149,10 @@ program-determined κs a x x′ r r′ p q = (one (p .0) (q .0), one (p .1) (q .
 pub host-convert-determined : (κs : Lifetimes 5) (a x x′ : Slices 5) (r r′ : ℕ) → host-convert.Learnt κs a r x → host-convert.Learnt κs a r′ x′ →
     (r ≡ r′) × ((now (x .1 .1 .0) ≡ now (x′ .1 .1 .0)) × ((now (x .1 .1 .1 .0) ≡ now (x′ .1 .1 .1 .0)) × (now (x .1 .1 .1 .1 .0) ≡ now (x′ .1 .1 .1 .1 .0))))
 host-convert-determined κs a x x′ r r′ p q = (one (p .0) (q .0), (one (p .1 .0) (q .1 .0), (one (p .1 .1 .0) (q .1 .1 .0), one (p .1 .1 .1) (q .1 .1 .1))))
+
+pub host-canadian-determined : (κs : Lifetimes 3) (a x x′ : Slices 3) (r r′ : ℕ) → host-canadian.Learnt κs a r x → host-canadian.Learnt κs a r′ x′ →
+    (r ≡ r′) × ((now (x .1 .0) ≡ now (x′ .1 .0)) × (now (x .1 .1 .0) ≡ now (x′ .1 .1 .0)))
+host-canadian-determined κs a x x′ r r′ p q = (one (p .0) (q .0), (one (p .1 .0) (q .1 .0), one (p .1 .1) (q .1 .1)))
 
 pub host-read-determined : (κs : Lifetimes 1) (a x x′ : Slices 1) (r r′ : ℕ) → host-read.Learnt κs a r x → host-read.Learnt κs a r′ x′ → r ≡ r′
 host-read-determined κs a x x′ r r′ p q = one p q

@@ -33,9 +33,9 @@ use Rattle.told.proofs.Leaves.{leaf-value}
 use Rattle.demands.specs.Message.{prefix, alert, locations, isQuiet, headerBody, wholeOf}
 use Rattle.demands.specs.Board.{ownKey, ownHeader, namedKeys, messageRecords}
 use Rattle.demands.specs.Numbers.{NumberRow, row, lowestIn, fieldBeside, messageRows, headerRows, takenRows}
-use Rattle.demands.proofs.Rows.{held, at-pick, pick-same, lowest-append}
+use Rattle.demands.proofs.Rows.{held, at-pick, lowest-append}
 use Rattle.demands.proofs.Fields.{alert-real, read, Faultless}
-use Rattle.demands.proofs.Alerts.{said, sent-said, naming-said, lacking-said, message-number, message-field, message-said, message-faultless}
+use Rattle.demands.proofs.Alerts.{said, sent-said, naming-said, lacking-said, message-number, message-field, message-said, message-faultless, no-field}
 use Rattle.demands.proofs.Infos.{told, all-pass, hasEvent, hasOrigin, hasPlaces, hasEnd}
 use Rattle.demands.proofs.Infos.{event-said, origin-said, known-said, places-said, lasting-said, ended-said, quiet-said}
 
@@ -98,15 +98,11 @@ module _ (s : List ℕ) where
   pub judged-field : judgedOf s .field ≡ fieldBeside (judgedOf s .number) s
   judged-field =
       let P : Judged → Type 0 = λ (j : Judged). j .field ≡ fieldBeside (j .number) s in
-      judged-holds s m P (λ e. message-field s) (λ e. unless 10 (eqb-true (m .number) 0 e)) (λ e. unless 0 (eqb-true (m .number) 0 e))
-      (λ e. let z = eqb-true (m .number) 0 e in alerted-holds s m P (λ n h. unless n z) (unless 0 z))
+      judged-holds s m P (λ e. message-field s) (λ e. no-field s 10 (eqb-true (m .number) 0 e)) (λ e. no-field s 0 (eqb-true (m .number) 0 e))
+      (λ e. let z = eqb-true (m .number) 0 e in alerted-holds s m P (λ n h. no-field s n z) (no-field s 0 z))
     where
       m : Message
       m = messageSays s
-
-      -- where none of 4 to 9 applies the field is 0, whatever is answered
-      unless : (n : ℕ) → m .number ≡ 0 → m .field ≡ fieldBeside n s
-      unless n z = message-field s ∙ rw (z, message-faultless s z .none-at-fault, pick-same {A = ℕ} (eqb n 7) 0)
 
 -- ---- a message that answers 0
 

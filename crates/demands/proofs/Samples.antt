@@ -11,9 +11,9 @@ use Rattle.octets.specs.Text.{bytes}
 use Rattle.board.specs.Rules.{boardOf}
 use Rattle.report.specs.Program.{printed}
 use Rattle.demands.specs.Calls.{library}
-use Rattle.demands.specs.Message.{isQuiet, wholeOf}
+use Rattle.demands.specs.Message.{isQuiet, wholeOf, wholeInCanada}
 use Rattle.demands.specs.Board.{dueHeaders}
-use Rattle.demands.specs.Numbers.{noneApplies, conversionRows, isBoard, emptiesIn}
+use Rattle.demands.specs.Numbers.{noneApplies, conversionRows, canadianRows, isBoard, emptiesIn}
 use Rattle.demands.specs.Runs.{afterOffers, handOuts}
 use Rattle.demands.specs.StandIns.{sample, other, bench, headerOf, noneHeld, oneHeld, twoDue, nothingAfterFirst}
 use Rattle.demands.proofs.Opens.{computing}
@@ -48,6 +48,15 @@ pub sample-printed : printed (library .conversion sample bench 252 1800 1024) �
     bytes "number 0 field 0\nheader ZCZC-CIV-CEM-024031+0045-0951800-BENCH/01-\naudio none\ncarry no\ntext " ++ (sampleText ++ bytes "\n")
 unfolding computing
 sample-printed = refl
+
+-- in the Canadian mode
+pub sample-taken-in-canada : noneApplies (canadianRows sample 1800 1024) ≡ true
+unfolding computing
+sample-taken-in-canada = refl
+
+pub sample-in-canada : wholeInCanada sample ≡ record { text = bytes "Water main broken. Boil water."; audio = 0; uri = [] }
+unfolding computing
+sample-in-canada = refl
 
 pub other-taken : noneApplies (conversionRows other bench 252 1800 1024) ≡ true
 unfolding computing

@@ -1,5 +1,6 @@
 -- None of document 01's five stand-ins meets the demand that it names for them: each is rejected at a message or a board that is computed.
 --     always-refuses-rejected         by the table, which has no number for the sample, and by the header that is not given
+--     refuses-in-canada-rejected      the same of the Canadian mode, by the text
 --     one-header-rejected             by the headers of two messages
 --     writes-nothing-rejected, invented-count-rejected    by the count, which is the growth in filled records
 --     nothing-after-first-rejected    by hand-outs that give one of two due headers
@@ -16,16 +17,17 @@ use lib.Seq.{take-length}
 use Rattle.octets.specs.Bytes.{pick}
 use Rattle.octets.specs.Text.{bytes}
 use Rattle.told.specs.Values.{isNone}
+use Rattle.outputs.specs.Outputs.{TextGiven}
 use Rattle.convert.specs.Convert.{Given, nothing}
 use Rattle.board.specs.Rules.{boardOf}
 use Rattle.offers.specs.Offer.{MessageOffering}
 use Rattle.demands.specs.Calls.{Calls, library}
-use Rattle.demands.specs.Message.{isQuiet, wholeOf}
+use Rattle.demands.specs.Message.{isQuiet, wholeOf, wholeInCanada}
 use Rattle.demands.specs.Numbers.{noneApplies, conversionRows}
 use Rattle.demands.specs.Demands.{Demand1, Demand2, Demand3, Demands}
 use Rattle.demands.specs.StandIns.{sample, other, bench, noneHeld, oneHeld, twoDue, headerOf}
-use Rattle.demands.specs.StandIns.{alwaysRefuses, oneHeader, writesNothing, inventedCount, nothingAfterFirst, SameAnswers, careful}
-use Rattle.demands.proofs.Samples.{sample-taken, sample-loud, sample-whole, other-taken, other-loud, other-header}
+use Rattle.demands.specs.StandIns.{alwaysRefuses, refusesInCanada, oneHeader, writesNothing, inventedCount, nothingAfterFirst, SameAnswers, careful}
+use Rattle.demands.proofs.Samples.{sample-taken, sample-loud, sample-whole, sample-taken-in-canada, sample-in-canada, other-taken, other-loud, other-header}
 use Rattle.demands.proofs.Samples.{first-offer, second-offer, none-filled, one-filled, two-keeps, two-empty, both-due, only-first}
 
 -- ---- converters
@@ -45,6 +47,16 @@ pub always-refuses-rejected : (number : ℕ) → (number ≡ 0 → ⊥) → (Dem
 always-refuses-rejected number refuses = (
   λ d. refuses (d .convert-numbered sample bench 252 1800 1024 .zero-exactly .1 sample-taken),
   λ d. true≢false (ap (λ (g : Given). isNone (g .header)) (d .gives-all sample bench 252 1800 1024 sample-taken sample-loud) ∙ sample-some),
+)
+
+text-some : isNone (wholeInCanada sample .text) ≡ false
+unfolding bytes
+text-some = rw (ap (λ (g : TextGiven). g .text) sample-in-canada) refl
+
+pub refuses-in-canada-rejected : (number : ℕ) → (number ≡ 0 → ⊥) → (Demand1 (refusesInCanada number) → ⊥) × (Demand2 (refusesInCanada number) → ⊥)
+refuses-in-canada-rejected number refuses = (
+  λ d. refuses (d .canadian-numbered sample 1800 1024 .zero-exactly .1 sample-taken-in-canada),
+  λ d. true≢false (ap (λ (g : TextGiven). isNone (g .text)) (d .canadian-gives-all sample 1800 1024 sample-taken-in-canada) ∙ text-some),
 )
 
 -- what is given in place of nothing, where the whole has a header, is the whole
@@ -105,6 +117,7 @@ nothing-after-first-rejected d =
 same-calls : (c : Calls) → SameAnswers c → c ≡ library
 same-calls c same = λ i. record {
   conversion = λ s station h t u. same .conversion s station h t u i;
+  canadian = λ s t u. same .canadian s t u i;
   offering = λ b s. same .offering b s i;
   handing = λ b. same .handing b i;
   listing = λ b rows. same .listing b rows i;
@@ -118,6 +131,7 @@ alike c same d = subst Demands (sym (same-calls c same)) d
 careful-same : SameAnswers careful
 careful-same = record {
   conversion = λ s station h t u. ap (λ (m : List ℕ). library .conversion m station h t u) (take-length s);
+  canadian = λ s t u. ap (λ (m : List ℕ). library .canadian m t u) (take-length s);
   offering = λ b s. ap (library .offering b) (take-length s);
   handing = λ b. refl;
   listing = λ b rows. refl;

@@ -1,7 +1,7 @@
 -- What a function's contract allows, answer and lent bytes at exit, is the library's call that the demands speak of. Learnt is the contract as the toolchain
 -- reads it: what a caller learns of lifetimes κs, arguments a, a result r and the arguments at exit x.
---     convert-is-conversion, offer-is-offering, hand-out-is-handing, list-is-listing, read-is-reading, write-is-writing    for callers in Rattle
---     host-convert-is-conversion, host-offer-is-offering, host-hand-out-is-handing, host-read-is-reading, host-write-is-writing    for a host in C
+--     convert-is-conversion, canadian-is-canadian, offer-is-offering, hand-out-is-handing, list-is-listing, read-is-reading, write-is-writing    for callers in Rattle
+--     host-convert-is-conversion, host-canadian-is-canadian, host-offer-is-offering, host-hand-out-is-handing, host-read-is-reading, host-write-is-writing    for a host in C
 --     program-is-conversion    the program's lines
 use Prim.Native.Nat.{ℕ, _≤_}
 use mathlib.Core.Path.{_≡_}
@@ -26,6 +26,9 @@ use Rattle.header.specs.declared.Written.{Written}
 use Rattle.header.proofs.read_header.Reads as read-header
 use Rattle.header.proofs.write_header.Reads as write-header
 use Rattle.header.proofs.write_asked.Reads as write-asked
+use Rattle.outputs.specs.Outputs.{TextOutcome, textAnswerOf}
+use Rattle.outputs.specs.declared.TextAudio.{TextAudio}
+use Rattle.canadian.proofs.convert.Reads as canadian
 use Rattle.convert.specs.Convert.{Outcome, answerOf}
 use Rattle.convert.specs.declared.Converted.{Converted}
 use Rattle.convert.proofs.convert.Reads as convert
@@ -43,7 +46,8 @@ use Rattle.offers.specs.declared.Offered.{Offered}
 use Rattle.offers.proofs.offer.Reads as offer
 use Rattle.report.specs.Program.{printed, programOf}
 use Rattle.report.proofs.program.Reads as program
-use Rattle.stuiverhaag.specs.Packed.{packedConverted, packedRead, packedWritten, packedOffered, packedHanded}
+use Rattle.stuiverhaag.specs.Packed.{packedText, packedConverted, packedRead, packedWritten, packedOffered, packedHanded}
+use Rattle.stuiverhaag.proofs.stuiverhaag_canadian.Reads as host-canadian
 use Rattle.stuiverhaag.proofs.stuiverhaag_convert.Reads as host-convert
 use Rattle.stuiverhaag.proofs.stuiverhaag_read_header.Reads as host-read
 use Rattle.stuiverhaag.proofs.stuiverhaag_write_header.Reads as host-write
@@ -72,6 +76,20 @@ convert-is-conversion κs a x r p = p
 pub host-convert-is-conversion : (κs : Lifetimes 5) (a x : Slices 5) (r : ℕ) →
     host-convert.Learnt κs a r x → (r ≡ packedConverted (answerOf (converted a))) × Filled a x
 host-convert-is-conversion κs a x r p = p
+
+-- of a message in the Canadian mode, into a text and a uri
+abbrev inCanada : Slices 3 → TextOutcome
+inCanada a = library .canadian (now (a .0)) (length (now (a .1 .0))) (length (now (a .1 .1 .0)))
+
+abbrev FilledInCanada : Slices 3 → Slices 3 → Type 0
+FilledInCanada a x = (now (x .1 .0) ≡ sets (now (a .1 .0)) 0 (inCanada a .given .text)) × (now (x .1 .1 .0) ≡ sets (now (a .1 .1 .0)) 0 (inCanada a .given .uri))
+
+pub canadian-is-canadian : (κs : Lifetimes 3) (a x : Slices 3) (r : TextAudio) → canadian.Learnt κs a r x → (r ≡ textAnswerOf (inCanada a)) × FilledInCanada a x
+canadian-is-canadian κs a x r p = p
+
+pub host-canadian-is-canadian : (κs : Lifetimes 3) (a x : Slices 3) (r : ℕ) →
+    host-canadian.Learnt κs a r x → (r ≡ packedText (textAnswerOf (inCanada a))) × FilledInCanada a x
+host-canadian-is-canadian κs a x r p = p
 
 -- the lines that the program prints: none where less room is lent than 4,096 bytes
 abbrev linesOf : Slices 2 → List ℕ

@@ -5,6 +5,8 @@ use Rattle.parts.specs.declared.Parts.{Parts}
 use Rattle.header.specs.declared.Read.{Read}
 use Rattle.header.specs.declared.Written.{Written}
 use Rattle.header.specs.Header.{readOf, writeOf, writeBytes}
+use Rattle.outputs.specs.Outputs.{TextOutcome}
+use Rattle.canadian.specs.WorkingCanadian.{canadianOf}
 use Rattle.convert.specs.Convert.{Outcome}
 use Rattle.convert.specs.WorkingConvert.{convertOf}
 use Rattle.board.specs.Calls.{Handing, Listing}
@@ -20,6 +22,8 @@ pub record Writing : Type 0 where
 pub record Calls : Type 0 where
   -- converting the message s for a station, into outputs of these lengths
   pub conversion : (s station : List ℕ) (header text uri : ℕ) → Outcome
+  -- the Canadian mode of the message s, into outputs of these lengths
+  pub canadian : (s : List ℕ) (text uri : ℕ) → TextOutcome
   -- offering the message s to the board b
   pub offering : (b s : List ℕ) → MessageOffering
   -- a hand-out of the board b
@@ -35,6 +39,7 @@ pub record Calls : Type 0 where
 abbrev pub library : Calls
 library = record {
   conversion = convertOf;
+  canadian = canadianOf;
   offering = messageOffer;
   handing = handOf;
   listing = listOf;

@@ -9,15 +9,16 @@ use Rattle.parts.specs.Parts.{noBody, noStation}
 use Rattle.parts.specs.declared.Parts.{Parts}
 use Rattle.header.specs.declared.Read.{Read}
 use Rattle.header.specs.declared.Written.{Written}
+use Rattle.outputs.specs.Outputs.{noText}
 use Rattle.convert.specs.Convert.{nothing}
 use Rattle.records.specs.Record.{pad, aired}
 use Rattle.ledger.specs.Sorted.{In, Sorted, insert, insertAll}
 use Rattle.board.specs.Rules.{boardOf}
 use Rattle.told.specs.Values.{firstValue}
 use Rattle.demands.specs.Calls.{Calls, Writing}
-use Rattle.demands.specs.Message.{isQuiet, headerParts, wholeOf}
+use Rattle.demands.specs.Message.{isQuiet, headerParts, wholeOf, wholeInCanada}
 use Rattle.demands.specs.Board.{ownHeader, messageRecords, dueHeaders, makesDue, firstIndex, rowOf}
-use Rattle.demands.specs.Numbers.{Numbered, noneApplies, fieldBeside, conversionRows, isBoard, emptiesIn, offerRows, handOutRows, listRows, readRows, writeRows}
+use Rattle.demands.specs.Numbers.{Numbered, noneApplies, fieldBeside, conversionRows, canadianRows, isBoard, emptiesIn, offerRows, handOutRows, listRows, readRows, writeRows}
 use Rattle.demands.specs.Runs.{Empty, afterOffers, NoneFull, Takes, CarriedBy, handOuts, BoardCall, handedOut, Once}
 
 -- Bad input gets the refusal number that document 01 gives, no call is refused where none of its numbers applies, and a refused call changes no lent byte and no
@@ -26,6 +27,9 @@ pub record Demand1 (c : Calls) : Type 0 where
   pub convert-numbered : (s station : List ℕ) (h t u : ℕ) → Numbered (c .conversion s station h t u .number) (conversionRows s station h t u)
   pub convert-field : (s station : List ℕ) (h t u : ℕ) → c .conversion s station h t u .field ≡ fieldBeside (c .conversion s station h t u .number) s
   pub convert-refused : (s station : List ℕ) (h t u : ℕ) → (c .conversion s station h t u .number ≡ 0 → ⊥) → c .conversion s station h t u .given ≡ nothing
+  pub canadian-numbered : (s : List ℕ) (t u : ℕ) → Numbered (c .canadian s t u .number) (canadianRows s t u)
+  pub canadian-field : (s : List ℕ) (t u : ℕ) → c .canadian s t u .field ≡ fieldBeside (c .canadian s t u .number) s
+  pub canadian-refused : (s : List ℕ) (t u : ℕ) → (c .canadian s t u .number ≡ 0 → ⊥) → c .canadian s t u .given ≡ noText
   pub offer-numbered : (b s : List ℕ) → Numbered (c .offering b s .answer .number) (offerRows b s)
   pub offer-field : (b s : List ℕ) → c .offering b s .answer .field ≡ fieldBeside (c .offering b s .answer .number) s
   pub offer-refused : (b s : List ℕ) → (c .offering b s .answer .number ≡ 0 → ⊥) → (c .offering b s .answer .added ≡ 0) × (c .offering b s .bytes ≡ b)
@@ -48,6 +52,8 @@ pub record Demand2 (c : Calls) : Type 0 where
   pub quiet-gives-nothing : (s station : List ℕ) (h t u : ℕ) → noneApplies (conversionRows s station h t u) ≡ true → isQuiet s ≡ true →
       c .conversion s station h t u .given ≡ nothing
   pub text-short : (s station : List ℕ) (h t u : ℕ) → length (c .conversion s station h t u .given .text) ≤ 1800
+  pub canadian-gives-all : (s : List ℕ) (t u : ℕ) → noneApplies (canadianRows s t u) ≡ true → c .canadian s t u .given ≡ wholeInCanada s
+  pub canadian-short : (s : List ℕ) (t u : ℕ) → length (c .canadian s t u .given .text) ≤ 1800
   pub header-reads-back : (s station : List ℕ) (h t u : ℕ) → noneApplies (conversionRows s station h t u) ≡ true → isQuiet s ≡ false →
       c .reading (c .conversion s station h t u .given .header) ≡ record { number = 0; parts = headerParts s station }
   pub read-gives-back : (d : List ℕ) (p : Parts) → c .writing d p .answer .number ≡ 0 →

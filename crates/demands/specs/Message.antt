@@ -15,12 +15,14 @@ use Rattle.parts.specs.declared.Parts.{Parts}
 use Rattle.header.specs.Header.{headerBytes}
 use Rattle.markup.specs.Tree.{Forest, nil, One, one, none}
 use Rattle.markup.specs.Document.{docAt}
-use Rattle.reads.specs.Parameters.{ReadParameter, easOrg, easText, easMustCarry}
+use Rattle.reads.specs.Parameters.{ReadParameter, easOrg, easText, easMustCarry, broadcastText}
 use Rattle.gather.specs.Read.{named}
 use Rattle.told.specs.Values.{isNone, firstValue, is, valueOf, valuesUnder, valuesNamed, eventCodes, parameters, geocodes, selectedIn, audioIn}
 use Rattle.message.specs.Root.{prefixOf}
 use Rattle.sentence.specs.Words.{sentenceOf}
 use Rattle.wording.specs.Text.{textOf}
+use Rattle.outputs.specs.Outputs.{TextGiven}
+use Rattle.canadian.specs.Canadian.{canadianText}
 use Rattle.convert.specs.Convert.{Given}
 
 -- ---- its alert and its selected info
@@ -133,6 +135,10 @@ abbrev pub alertText : List ℕ → List ℕ
 alertText s =
     textOf (sentenceOf (headerBody s)) (firstValue (parameterValues easText s)) (senderName s) (description s) (instruction s)
 
+-- the first non-empty value of a parameter named `layer:AEA:2.0:broadcastText`, or description and instruction
+abbrev pub textInCanada : List ℕ → List ℕ
+textInCanada s = canadianText (firstValue (parameterValues broadcastText s)) (description s) (instruction s)
+
 -- must-carry: the first EAS-Must-Carry parameter is `True`
 abbrev pub mustCarry : List ℕ → Bool
 mustCarry s = is "True" (firstValue (parameterValues easMustCarry s))
@@ -145,4 +151,12 @@ wholeOf s station = record {
   audio = audioIn s (prefix s) (info s) .number;
   uri = audioIn s (prefix s) (info s) .uri;
   carry = mustCarry s;
+}
+
+-- all that it gives in the Canadian mode, where it answers 0: text and audio only
+unfoldable pub wholeInCanada : List ℕ → TextGiven
+wholeInCanada s = record {
+  text = textInCanada s;
+  audio = audioIn s (prefix s) (info s) .number;
+  uri = audioIn s (prefix s) (info s) .uri;
 }

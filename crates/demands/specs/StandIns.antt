@@ -11,6 +11,8 @@ use Rattle.octets.specs.Bytes.{pick}
 use Rattle.octets.specs.Text.{bytes}
 use Rattle.parts.specs.declared.Parts.{Parts}
 use Rattle.told.specs.Values.{isNone}
+use Rattle.outputs.specs.Outputs.{TextOutcome}
+use Rattle.outputs.specs.WorkingOutputs.{textRefused}
 use Rattle.convert.specs.Convert.{Given, Outcome, nothing}
 use Rattle.convert.specs.WorkingConvert.{refusedWith}
 use Rattle.records.specs.Record.{kind, pad, keyOf, notice}
@@ -71,6 +73,19 @@ twoDue = encode 1536 (noticeOf "CEM" ∷ (noticeOf "TOR" ∷ []))
 abbrev pub converting : ((s station : List ℕ) (header text uri : ℕ) → Outcome) → Calls
 converting conversion = record {
   conversion = conversion;
+  canadian = library .canadian;
+  offering = library .offering;
+  handing = library .handing;
+  listing = library .listing;
+  reading = library .reading;
+  writing = library .writing;
+}
+
+-- but for its Canadian mode
+abbrev pub canadianBy : ((s : List ℕ) (text uri : ℕ) → TextOutcome) → Calls
+canadianBy canadian = record {
+  conversion = library .conversion;
+  canadian = canadian;
   offering = library .offering;
   handing = library .handing;
   listing = library .listing;
@@ -82,6 +97,7 @@ converting conversion = record {
 abbrev pub offeringBy : ((b s : List ℕ) → MessageOffering) → Calls
 offeringBy offering = record {
   conversion = library .conversion;
+  canadian = library .canadian;
   offering = offering;
   handing = library .handing;
   listing = library .listing;
@@ -93,6 +109,7 @@ offeringBy offering = record {
 abbrev pub handingBy : ((b : List ℕ) → Handing) → Calls
 handingBy handing = record {
   conversion = library .conversion;
+  canadian = library .canadian;
   offering = library .offering;
   handing = handing;
   listing = library .listing;
@@ -103,6 +120,10 @@ handingBy handing = record {
 -- every conversion is refused, with this number and zeros elsewhere
 abbrev pub alwaysRefuses : ℕ → Calls
 alwaysRefuses number = converting (λ s station h t u. refusedWith number)
+
+-- the same of the Canadian mode
+abbrev pub refusesInCanada : ℕ → Calls
+refusesInCanada number = canadianBy (λ s t u. textRefused number 0)
 
 -- every message has its own number, and one that gives a header gives the same as any other, chosen by the station
 abbrev pub oneHeader : (List ℕ → Given) → Calls
@@ -134,6 +155,7 @@ nothingAfterFirst = handingBy (λ b. pick (some (λ r. eqb (kind r) 3) (boardOf 
 -- each call answers as the library's, whatever it is lent
 pub record SameAnswers (c : Calls) : Type 0 where
   pub conversion : (s station : List ℕ) (h t u : ℕ) → c .conversion s station h t u ≡ library .conversion s station h t u
+  pub canadian : (s : List ℕ) (t u : ℕ) → c .canadian s t u ≡ library .canadian s t u
   pub offering : (b s : List ℕ) → c .offering b s ≡ library .offering b s
   pub handing : (b : List ℕ) → c .handing b ≡ library .handing b
   pub listing : (b : List ℕ) (rows : ℕ) → c .listing b rows ≡ library .listing b rows
@@ -144,6 +166,7 @@ pub record SameAnswers (c : Calls) : Type 0 where
 abbrev pub careful : Calls
 careful = record {
   conversion = λ s station h t u. library .conversion (take (length s) s) station h t u;
+  canadian = λ s t u. library .canadian (take (length s) s) t u;
   offering = λ b s. library .offering b (take (length s) s);
   handing = library .handing;
   listing = library .listing;
