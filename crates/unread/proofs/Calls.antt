@@ -8,9 +8,12 @@ use mathlib.Core.Path.{_≡_, ap}
 use mathlib.Core.List.{List, _∷_}
 use Rattle.octets.specs.Text.{bytes}
 use Rattle.reads.specs.declared.Audio.{Audio}
+use Rattle.message.specs.WorkingMessage.{messageSays}
+use Rattle.message.specs.declared.Message.{Message}
 use Rattle.judgement.specs.WorkingJudged.{judgedOf}
 use Rattle.judgement.specs.declared.Judged.{Judged}
 use Rattle.outputs.specs.WorkingOutputs.{uriIn}
+use Rattle.canadian.specs.WorkingCanadian.{canadianGiven, worded, canadianBy, canadianOf}
 use Rattle.convert.specs.WorkingConvert.{textIn, alertGiven, outcomeOf, convertOf}
 use Rattle.offers.specs.WorkingRecords.{ownIn, zeroFilledHeader, alertBy, recordsOf}
 use Rattle.offers.specs.Offer.{MessageOffering}
@@ -21,6 +24,7 @@ use Rattle.demands.specs.Runs.{BoardCall, offers, handedOut}
 use Rattle.unread.specs.Kept.{OnlyUnreadDiffers}
 use Rattle.unread.specs.Unread.{NothingUnreadMatters}
 use Rattle.unread.proofs.Alike.{AudioAs}
+use Rattle.unread.proofs.Messages.{MessageAs, message-as}
 use Rattle.unread.proofs.Judges.{JudgedAs, judged-as}
 
 module _ (s r : List ℕ) where
@@ -63,6 +67,22 @@ module _ (s r : List ℕ) where
     unfolding alertBy
     left-as = rw (own-as, header-as, h .quiet, h .message .msgType, h .message .alert .references .value)
 
+  -- ---- the Canadian mode
+
+  by-as : (m n : Message) → MessageAs s r m n → canadianBy s m ≡ canadianBy r n
+  unfolding canadianBy worded canadianGiven
+  by-as m n h =
+      let i = h .alert .info in
+      rw (
+        h .number,
+        h .field,
+        i .parameters .each 3 (omega arith) .value,
+        i .description .value,
+        i .instruction .value,
+        uri-as _ _ (i .audio),
+        i .audio .number,
+      )
+
   module _ (d : OnlyUnreadDiffers s r) where
     h : JudgedAs s r (judgedOf s) (judgedOf r)
     h = judged-as s r d
@@ -70,6 +90,10 @@ module _ (s r : List ℕ) where
     same-conversion : (station : List ℕ) (header text uri : ℕ) → convertOf s station header text uri ≡ convertOf r station header text uri
     unfolding convertOf
     same-conversion station header text uri = rw (outcome-as (judgedOf s) (judgedOf r) h station)
+
+    same-canadian : (text uri : ℕ) → canadianOf s text uri ≡ canadianOf r text uri
+    unfolding canadianOf
+    same-canadian text uri = rw (by-as (messageSays s) (messageSays r) (message-as s r d))
 
     same-records : recordsOf s ≡ recordsOf r
     unfolding recordsOf
@@ -84,7 +108,7 @@ module _ (s r : List ℕ) where
     same-program room = rw (same-conversion (bytes "BENCH/01") 252 1800 1024)
 
 pub nothing-unread-matters : NothingUnreadMatters library
-nothing-unread-matters = record { conversion-same = same-conversion; offering-same = same-offering }
+nothing-unread-matters = record { conversion-same = same-conversion; canadian-same = same-canadian; offering-same = same-offering }
 
 -- whatever offers and hand-outs follow, the same headers are handed out
 pub same-activations : (c : Calls) → NothingUnreadMatters c → (s r : List ℕ) → OnlyUnreadDiffers s r → (b : List ℕ) (cs : List BoardCall) →

@@ -1,8 +1,8 @@
 -- Nothing unread matters, over the functions themselves: two calls that differ only in a message, and there only in what is unread, return the same and
 -- leave the same bytes, refusals too. Learnt is a function's contract as the toolchain reads it: what a caller learns of lifetimes, arguments, a result and
 -- the arguments at exit.
---     convert-same, offer-same, program-same     number, field, all else that is returned, and every lent byte
---     host-convert-same, host-offer-same         for a host in C
+--     convert-same, canadian-same, offer-same, program-same          number, field, all else that is returned, and every lent byte
+--     host-convert-same, host-canadian-same, host-offer-same         for a host in C
 --     read-alike, judge-alike                    these answer places in the message: the same number and field, and the same values at the places
 use Prim.Native.Nat.{ℕ}
 use mathlib.Core.Path.{_≡_, sym, ap, _∙_}
@@ -14,6 +14,9 @@ use Rattle.message.specs.declared.Message.{Message}
 use Rattle.message.proofs.read.Reads as read
 use Rattle.judgement.specs.declared.Judged.{Judged}
 use Rattle.judgement.proofs.judge.Reads as judge
+use Rattle.outputs.specs.Outputs.{TextOutcome, textAnswerOf}
+use Rattle.outputs.specs.declared.TextAudio.{TextAudio}
+use Rattle.canadian.proofs.convert.Reads as canadian
 use Rattle.convert.specs.Convert.{Outcome, answerOf}
 use Rattle.convert.specs.declared.Converted.{Converted}
 use Rattle.convert.proofs.convert.Reads as convert
@@ -21,7 +24,8 @@ use Rattle.offers.specs.Offer.{MessageOffering}
 use Rattle.offers.specs.declared.Offered.{Offered}
 use Rattle.offers.proofs.offer.Reads as offer
 use Rattle.report.proofs.program.Reads as program
-use Rattle.stuiverhaag.specs.Packed.{packedConverted, packedOffered}
+use Rattle.stuiverhaag.specs.Packed.{packedText, packedConverted, packedOffered}
+use Rattle.stuiverhaag.proofs.stuiverhaag_canadian.Reads as host-canadian
 use Rattle.stuiverhaag.proofs.stuiverhaag_convert.Reads as host-convert
 use Rattle.stuiverhaag.proofs.stuiverhaag_offer.Reads as host-offer
 use Rattle.demands.specs.Calls.{library}
@@ -69,6 +73,35 @@ module _ (κs κs′ : Lifetimes 5) (m n : Lent) (d : OnlyUnreadDiffers (now m) 
 
     pub host-convert-same : (r r′ : ℕ) → host-convert.Learnt κs (m, b) r x → host-convert.Learnt κs′ (n, b) r′ x′ → (r ≡ r′) × SameOutputs x x′
     host-convert-same r r′ p q = (made (λ (o : Outcome). packedConverted (answerOf o)) (p .0) outcome-same (q .0), outputs-same (p .1) (q .1))
+
+-- ---- the Canadian mode: the messages are m and n; text and uri are b in both calls
+
+module _ (κs κs′ : Lifetimes 3) (m n : Lent) (d : OnlyUnreadDiffers (now m) (now n)) (b : Slices 2) (x x′ : Slices 3) where
+  abbrev inCanada : Lent → TextOutcome
+  inCanada k = library .canadian (now k) (length (now (b .0))) (length (now (b .1 .0)))
+
+  in-canada-same : inCanada m ≡ inCanada n
+  in-canada-same = nothing-unread-matters .canadian-same (now m) (now n) d _ _
+
+  -- text and uri at exit are the same
+  abbrev SameTexts : Type 0
+  SameTexts = (now (x .1 .0) ≡ now (x′ .1 .0)) × (now (x .1 .1 .0) ≡ now (x′ .1 .1 .0))
+
+  -- the outputs at exit, of this outcome
+  abbrev FilledBy : Slices 3 → TextOutcome → Type 0
+  FilledBy y o = (now (y .1 .0) ≡ sets (now (b .0)) 0 (o .given .text)) × (now (y .1 .1 .0) ≡ sets (now (b .1 .0)) 0 (o .given .uri))
+
+  texts-same : FilledBy x (inCanada m) → FilledBy x′ (inCanada n) → SameTexts
+  texts-same p q = (
+    made (λ (o : TextOutcome). sets (now (b .0)) 0 (o .given .text)) (p .0) in-canada-same (q .0),
+    made (λ (o : TextOutcome). sets (now (b .1 .0)) 0 (o .given .uri)) (p .1) in-canada-same (q .1),
+  )
+
+  pub canadian-same : (r r′ : TextAudio) → canadian.Learnt κs (m, b) r x → canadian.Learnt κs′ (n, b) r′ x′ → (r ≡ r′) × SameTexts
+  canadian-same r r′ p q = (made textAnswerOf (p .0) in-canada-same (q .0), texts-same (p .1) (q .1))
+
+  pub host-canadian-same : (r r′ : ℕ) → host-canadian.Learnt κs (m, b) r x → host-canadian.Learnt κs′ (n, b) r′ x′ → (r ≡ r′) × SameTexts
+  host-canadian-same r r′ p q = (made (λ (o : TextOutcome). packedText (textAnswerOf o)) (p .0) in-canada-same (q .0), texts-same (p .1) (q .1))
 
 -- ---- offer and program: the messages are m and n; the board, or the program's output, is b in both calls
 
