@@ -1,6 +1,7 @@
 -- Stand-ins for the library's calls. Document 01, "Holding a promise to its result", has five rejected: a converter that always refuses, or always gives one
--- header; an offer that writes nothing, or returns an invented added count; a hand-out that gives the first header and ever after says nothing is due. Each is
--- the library but for one call. The sixth answers as the library does and is written otherwise. Before them, the messages and boards on which they are tried.
+-- header; an offer that writes nothing, or returns an invented added count; a hand-out that gives the first header and ever after says nothing is due. A Canadian
+-- mode that always refuses is rejected too. Each is the library but for one call. The last answers as the library does and is written otherwise. Before them,
+-- the messages and boards on which they are tried.
 use Prim.Native.Nat.{ℕ}
 use Prim.Native.String.{String}
 use mathlib.Core.Path.{_≡_}
@@ -67,7 +68,7 @@ oneHeld = encode 768 (noticeOf "CEM" ∷ [])
 abbrev pub twoDue : List ℕ
 twoDue = encode 1536 (noticeOf "CEM" ∷ (noticeOf "TOR" ∷ []))
 
--- ---- the five
+-- ---- those that are rejected
 
 -- the library, but for its conversion
 abbrev pub converting : ((s station : List ℕ) (header text uri : ℕ) → Outcome) → Calls
@@ -150,7 +151,7 @@ inventedCount count = offeringBy (λ b s.
 abbrev pub nothingAfterFirst : Calls
 nothingAfterFirst = handingBy (λ b. pick (some (λ r. eqb (kind r) 3) (boardOf b)) (handRefused 16 b) (library .handing b))
 
--- ---- the sixth
+-- ---- the last
 
 -- each call answers as the library's, whatever it is lent
 pub record SameAnswers (c : Calls) : Type 0 where
