@@ -61,7 +61,9 @@ enum stuiverhaag_numbers {
     STUIVERHAAG_BOARD_FULL = 15,
     STUIVERHAAG_NOTHING_DUE = 16,
     /* unreadable bytes, or parts that no header has */
-    STUIVERHAAG_NO_HEADER = 17
+    STUIVERHAAG_NO_HEADER = 17,
+    /* neither a broadcastText nor a description that is not empty */
+    STUIVERHAAG_NO_TEXT = 18
 };
 
 /* The first of these that is at fault; the last of them is every other element that is read. */
@@ -118,6 +120,22 @@ uint64_t stuiverhaag_convert(const uint8_t *message, size_t message_length,
                              uint8_t *header, size_t header_length,
                              uint8_t *text, size_t text_length,
                              uint8_t *uri, size_t uri_length);
+
+/*
+ * Gives the text and the audio of a CAP message in the Canadian mode. Lent to be read: the
+ * message. Lent to be written: the alert text, and the uri of the audio.
+ *
+ * The text is the first value that is not empty of a parameter layer:AEA:2.0:broadcastText, this
+ * name in any letter case. Where there is none, it is the description, and after a space the
+ * instruction unless that is empty. What is longer than STUIVERHAAG_TEXT_LENGTH is cut there,
+ * without a mark. The audio is chosen as by stuiverhaag_convert.
+ *
+ * Numbers 0, 2, 4 to 9 and 18. After 0 the answer has text_length, which is never 0, audio and
+ * uri_length. A Cancel is answered as an Alert is.
+ */
+uint64_t stuiverhaag_canadian(const uint8_t *message, size_t message_length,
+                              uint8_t *text, size_t text_length,
+                              uint8_t *uri, size_t uri_length);
 
 /*
  * Reads a header, ZCZC-ORG-EEE-PSSCCC+TTTT-JJJHHMM-LLLLLLLL-, which is lent to be read.
@@ -178,7 +196,10 @@ static inline unsigned stuiverhaag_number(uint64_t answer)
     return stuiverhaag_bits(answer, 0, 8);
 }
 
-/* Of stuiverhaag_convert and stuiverhaag_offer: after 7 one of enum stuiverhaag_fields, else 0. */
+/*
+ * Of stuiverhaag_convert, stuiverhaag_canadian and stuiverhaag_offer: after 7 one of enum
+ * stuiverhaag_fields, else 0.
+ */
 static inline unsigned stuiverhaag_field(uint64_t answer)
 {
     return stuiverhaag_bits(answer, 8, 8);
@@ -190,7 +211,7 @@ static inline size_t stuiverhaag_header_length(uint64_t answer)
     return stuiverhaag_bits(answer, 16, 8);
 }
 
-/* Of stuiverhaag_convert: one of enum stuiverhaag_audios. */
+/* Of stuiverhaag_convert and stuiverhaag_canadian: one of enum stuiverhaag_audios. */
 static inline unsigned stuiverhaag_audio(uint64_t answer)
 {
     return stuiverhaag_bits(answer, 24, 4);
@@ -202,13 +223,13 @@ static inline unsigned stuiverhaag_carry(uint64_t answer)
     return stuiverhaag_bits(answer, 28, 4);
 }
 
-/* Of stuiverhaag_convert: how many bytes the uri has. */
+/* Of stuiverhaag_convert and stuiverhaag_canadian: how many bytes the uri has. */
 static inline size_t stuiverhaag_uri_length(uint64_t answer)
 {
     return stuiverhaag_bits(answer, 32, 16);
 }
 
-/* Of stuiverhaag_convert: how many bytes the text has. */
+/* Of stuiverhaag_convert and stuiverhaag_canadian: how many bytes the text has. */
 static inline size_t stuiverhaag_text_length(uint64_t answer)
 {
     return stuiverhaag_bits(answer, 48, 16);

@@ -26,10 +26,12 @@ static bool messages()
     uint8_t header[STUIVERHAAG_HEADER_LENGTH], text[STUIVERHAAG_TEXT_LENGTH], uri[STUIVERHAAG_URI_LENGTH];
     uint64_t converted = stuiverhaag_convert(message, sizeof message, station, sizeof station, header, sizeof header,
                                              text, sizeof text, uri, sizeof uri);
+    uint64_t canadian = stuiverhaag_canadian(message, sizeof message, text, sizeof text, uri, sizeof uri);
     uint64_t offered = stuiverhaag_offer(board, sizeof board, message, sizeof message);
     uint64_t handed = stuiverhaag_hand_out(board, sizeof board);
 
-    return stuiverhaag_number(converted) == STUIVERHAAG_XML_BAD && stuiverhaag_number(offered) == STUIVERHAAG_XML_BAD &&
+    return stuiverhaag_number(converted) == STUIVERHAAG_XML_BAD &&
+           stuiverhaag_number(canadian) == STUIVERHAAG_XML_BAD && stuiverhaag_number(offered) == STUIVERHAAG_XML_BAD &&
            stuiverhaag_number(handed) == STUIVERHAAG_NOTHING_DUE;
 }
 

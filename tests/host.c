@@ -1,5 +1,6 @@
 /*
- * Answers case lines (docs/CASES.md) as a host in C: `convert`, `read`, `write`, `offer` and `handout`, and `?` to any other.
+ * Answers case lines (docs/CASES.md) as a host in C: `convert`, `canadian`, `read`, `write`, `offer` and `handout`, and `?`
+ * to any other.
  *
  * Every slice is lent between guard bytes, and an output is filled with a pattern. After a call every
  * byte that it must leave alone is compared with what it was: the guards, what was lent to be read, an
@@ -362,6 +363,28 @@ static bool answer_write(const struct line *line, struct loans *loans)
     return true;
 }
 
+/* The two outputs that both modes have begin with what the answer says was written. */
+static void text_answered(struct lent *text, struct lent *uri, uint64_t answer)
+{
+    check_refusal(answer);
+    text->written = stuiverhaag_text_length(answer);
+    uri->written = stuiverhaag_uri_length(answer);
+}
+
+/* `number field`, with which every answer to a message begins. */
+static void print_number(uint64_t answer)
+{
+    printf("%u %u ", stuiverhaag_number(answer), stuiverhaag_field(answer));
+}
+
+/* `audio URI` */
+static void print_audio(uint64_t answer, const struct lent *uri)
+{
+    printf("%u ", stuiverhaag_audio(answer));
+    print_written(uri);
+    putchar(' ');
+}
+
 /* convert MESSAGE STATION HEADERCAP TEXTCAP URICAP */
 static bool answer_convert(const struct line *line, struct loans *loans)
 {
@@ -382,16 +405,42 @@ static bool answer_convert(const struct line *line, struct loans *loans)
     answer = stuiverhaag_convert(message->bytes, message->length, station->bytes, station->length,
                                  header->bytes, header->length, text->bytes, text->length,
                                  uri->bytes, uri->length);
-    check_refusal(answer);
+    text_answered(text, uri, answer);
     header->written = stuiverhaag_header_length(answer);
-    text->written = stuiverhaag_text_length(answer);
-    uri->written = stuiverhaag_uri_length(answer);
     compare(loans);
-    printf("%u %u ", stuiverhaag_number(answer), stuiverhaag_field(answer));
+    print_number(answer);
     print_written(header);
-    printf(" %u ", stuiverhaag_audio(answer));
-    print_written(uri);
-    printf(" %u ", stuiverhaag_carry(answer));
+    putchar(' ');
+    print_audio(answer, uri);
+    printf("%u ", stuiverhaag_carry(answer));
+    print_written(text);
+    putchar('\n');
+    return true;
+}
+
+/* canadian MESSAGE TEXTCAP URICAP */
+static bool answer_canadian(const struct line *line, struct loans *loans)
+{
+    const struct lent *message;
+    struct lent *text, *uri;
+    uint64_t answer;
+
+    if (line->count != 4)
+        return false;
+    message = lend_hex(loans, line->field[1]);
+    text = lend_output(loans, line->field[2]);
+    uri = lend_output(loans, line->field[3]);
+    if (message == NULL || text == NULL || uri == NULL)
+        return false;
+    note(loans);
+    answer = stuiverhaag_canadian(message->bytes, message->length, text->bytes, text->length,
+                                  uri->bytes, uri->length);
+    text_answered(text, uri, answer);
+    if (stuiverhaag_header_length(answer) != 0 || stuiverhaag_carry(answer) != 0)
+        broken("The Canadian mode answers a header or a carry.");
+    compare(loans);
+    print_number(answer);
+    print_audio(answer, uri);
     print_written(text);
     putchar('\n');
     return true;
@@ -421,7 +470,8 @@ static bool answer_offer(const struct line *line, struct loans *loans)
     answer = stuiverhaag_offer(board->bytes, board->length, message->bytes, message->length);
     board_answered(board, answer);
     compare(loans);
-    printf("%u %u %u ", stuiverhaag_number(answer), stuiverhaag_field(answer), stuiverhaag_added(answer));
+    print_number(answer);
+    printf("%u ", stuiverhaag_added(answer));
     print_hex(board->bytes, board->length);
     putchar('\n');
     return true;
@@ -458,6 +508,8 @@ static bool answer_line(const struct line *line, struct loans *loans)
         return answer_write(line, loans);
     if (is(line->field[0], "convert"))
         return answer_convert(line, loans);
+    if (is(line->field[0], "canadian"))
+        return answer_canadian(line, loans);
     if (is(line->field[0], "offer"))
         return answer_offer(line, loans);
     if (is(line->field[0], "handout"))

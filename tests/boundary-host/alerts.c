@@ -228,29 +228,53 @@ static void put_codes(struct bytes *out, const struct alert *alert)
     put_end(out, "area");
 }
 
+/* Words of so many characters, white space that collapses among them; or one word, which keeps its length. */
+static const char *some_words(size_t length)
+{
+    static char text[LONGEST_VALUE];
+
+    if (once_in(4))
+        draw_word(text, length);
+    else
+        draw_text(text, length);
+    return text;
+}
+
 /* A leaf of words of some length. */
 static void put_words(struct bytes *out, const char *name, size_t most)
 {
-    static const size_t lengths[] = {0, 1, 3, 30, 200, 201, 700, 1400, 1800, 3000};
-    static char text[LONGEST_VALUE];
+    static const size_t lengths[] = {0, 1, 3, 30, 200, 201, 700, 1400, 1799, 1800, 3000};
     size_t length = PICK(lengths);
 
-    draw_text(text, length < most ? length : most);
-    put_leaf(out, name, text);
+    put_leaf(out, name, some_words(length < most ? length : most));
+}
+
+/* The parameter that is the Canadian mode's text, its name in any letter case; or one of a longer or a shorter name. */
+static void put_broadcast_text(struct bytes *out)
+{
+    static const size_t lengths[] = {0, 0, 1, 30, 60, 1800, 1801, 3000};
+    char name[] = "layer:AEA:2.0:broadcastTextX";
+    size_t length = sizeof name - 2;
+
+    for (size_t i = 0; i < length; i++)
+        if (name[i] >= 'A' && once_in(4))
+            name[i] ^= 'A' ^ 'a';
+    if (once_in(12))
+        length = once_in(2) ? length - 1 : length + 1;
+    name[length] = '\0';
+    put_pair(out, "parameter", name, some_words(PICK(lengths)));
 }
 
 static void put_parameters(struct bytes *out, const struct alert *alert)
 {
-    static char text[LONGEST_VALUE];
-
     if (alert->originator != NULL)
         put_pair(out, "parameter", "EAS-ORG", alert->originator);
     for (size_t left = below(4); left > 0; left--)
         put_pair(out, "parameter", alert->originator != NULL && once_in(4) ? "EAS-ORG" : "VTEC", "/O.NEW.KBNC.TO.W/");
-    if (once_in(4)) {
-        draw_text(text, once_in(4) ? 2000 : below(60));
-        put_pair(out, "parameter", "EASText", text);
-    }
+    if (once_in(4))
+        put_pair(out, "parameter", "EASText", some_words(once_in(4) ? 2000 : below(60)));
+    while (once_in(4))
+        put_broadcast_text(out);
     if (once_in(3))
         put_pair(out, "parameter", "EAS-Must-Carry", once_in(2) ? "True" : "true");
 }

@@ -7,15 +7,16 @@
 #include <stdio.h>
 #include <string.h>
 
-#define NUMBERS (STUIVERHAAG_NO_HEADER + 1)
+#define NUMBERS (STUIVERHAAG_NO_TEXT + 1)
 #define FIELDS (STUIVERHAAG_FIELD_OTHER + 1)
 
-/* What a call does with a slice. */
-enum use { IS_READ, IS_WRITTEN, IS_CHANGED };
+/* What a slice is to a call. One before BOARD is read, a board is changed, and one behind it is an output. */
+enum use { MESSAGE, STATION, PART, HEADER, BOARD, HEADER_OUTPUT, TEXT_OUTPUT, URI_OUTPUT };
 
+/* An output has NULL for its bytes. */
 struct used {
-    struct slice slice;
     enum use use;
+    struct slice slice;
 };
 
 /* A call with all that it is lent. */
@@ -34,13 +35,14 @@ struct answered {
 };
 
 static const char *const names[CALLS] = {
-    "stuiverhaag_convert", "stuiverhaag_read_header", "stuiverhaag_write_header", "stuiverhaag_offer",
-    "stuiverhaag_hand_out",
+    "stuiverhaag_convert", "stuiverhaag_canadian", "stuiverhaag_read_header", "stuiverhaag_write_header",
+    "stuiverhaag_offer", "stuiverhaag_hand_out",
 };
 
 /* The numbers that a call may answer, a bit for each. */
 static const uint32_t numbers[CALLS] = {
     1u << 0 | 0x7ffcu,           /* 0 and 2 to 14 */
+    1u << 0 | 0x3f4u | 1u << 18, /* 0, 2, 4 to 9 and 18 */
     1u << 0 | 1u << 17,          /* 0 and 17 */
     1u << 0 | 0xcu | 1u << 17,   /* 0, 2, 3 and 17 */
     1u << 0 | 1u << 1 | 0xfff0u, /* 0, 1 and 4 to 15 */
@@ -62,6 +64,11 @@ struct slice slice_of(const struct bytes *bytes)
 struct slice written_header(void)
 {
     return slice_of(&last.wrote[last.call == CONVERT ? 2 : 3]);
+}
+
+struct slice written_uri(void)
+{
+    return slice_of(&last.wrote[last.call == CONVERT ? 4 : 2]);
 }
 
 void print_calls(void)
@@ -123,70 +130,84 @@ static void check_number(enum call call, uint64_t answer)
          (field >= STUIVERHAAG_FIELD_IDENTIFIER && field <= STUIVERHAAG_FIELD_OTHER), "The field is none of 1 to 7.");
 }
 
-/* A number that lengths and the station alone decide is answered exactly where they do. */
-static void check_decided(const struct asked *asked, unsigned number)
+/* The number that a slice alone decides, by its length or as a station; 0 where it decides none. */
+static unsigned decided_by(const struct used *used)
 {
-    const struct used *used = asked->used;
-    bool is_short;
+    size_t length = used->slice.length;
 
-    switch (asked->call) {
-    case CONVERT:
-        is_short = used[2].slice.length < STUIVERHAAG_HEADER_LENGTH ||
-                   used[3].slice.length < STUIVERHAAG_TEXT_LENGTH || used[4].slice.length < STUIVERHAAG_URI_LENGTH;
-        must((number == STUIVERHAAG_OUTPUT_SHORT) == is_short,
-             "Number 2 does not go with the lengths of the outputs.");
-        if (!is_short)
-            must((number == STUIVERHAAG_STATION_BAD) == !is_station(used[1].slice),
-                 "Number 3 does not go with the station.");
-        if (!is_short && number != STUIVERHAAG_STATION_BAD)
-            must((number == STUIVERHAAG_MESSAGE_LENGTH_BAD) == !is_message_length(used[0].slice.length),
-                 "Number 4 does not go with the length.");
-        break;
-    case READ_HEADER:
-        must(number == STUIVERHAAG_NO_HEADER || is_header_length(used[0].slice.length), "A header of such a length is none.");
-        break;
-    case WRITE_HEADER:
-        is_short = used[3].slice.length < STUIVERHAAG_HEADER_LENGTH;
-        must((number == STUIVERHAAG_OUTPUT_SHORT) == is_short, "Number 2 does not go with the length of the output.");
-        if (!is_short)
-            must((number == STUIVERHAAG_STATION_BAD) == !is_station(used[2].slice),
-                 "Number 3 does not go with the station.");
-        break;
-    case OFFER:
-        must(number == STUIVERHAAG_BOARD_RULES || is_board_length(used[0].slice.length),
-             "A board of such a length is none.");
-        if (number != STUIVERHAAG_BOARD_RULES)
-            must((number == STUIVERHAAG_MESSAGE_LENGTH_BAD) == !is_message_length(used[1].slice.length),
-                 "Number 4 does not go with the length.");
-        break;
+    switch (used->use) {
+    case MESSAGE:
+        return is_message_length(length) ? STUIVERHAAG_DONE : STUIVERHAAG_MESSAGE_LENGTH_BAD;
+    case STATION:
+        return is_station(used->slice) ? STUIVERHAAG_DONE : STUIVERHAAG_STATION_BAD;
+    case HEADER:
+        return is_header_length(length) ? STUIVERHAAG_DONE : STUIVERHAAG_NO_HEADER;
+    case BOARD:
+        return is_board_length(length) ? STUIVERHAAG_DONE : STUIVERHAAG_BOARD_RULES;
+    case HEADER_OUTPUT:
+        return length >= STUIVERHAAG_HEADER_LENGTH ? STUIVERHAAG_DONE : STUIVERHAAG_OUTPUT_SHORT;
+    case TEXT_OUTPUT:
+        return length >= STUIVERHAAG_TEXT_LENGTH ? STUIVERHAAG_DONE : STUIVERHAAG_OUTPUT_SHORT;
+    case URI_OUTPUT:
+        return length >= STUIVERHAAG_URI_LENGTH ? STUIVERHAAG_DONE : STUIVERHAAG_OUTPUT_SHORT;
     default:
-        must(number == STUIVERHAAG_BOARD_RULES || is_board_length(used[0].slice.length),
-             "A board of such a length is none.");
+        return STUIVERHAAG_DONE;
     }
 }
 
-/* The parts of a conversion that answered 0, one by one and beside each other. */
-static void check_converted(const struct answered *answered)
+/* The lowest number that a slice alone decides is answered, unless the board's content decides before it. */
+static void check_decided(const struct asked *asked, unsigned number)
 {
-    uint64_t answer = answered->answer;
-    const struct bytes *header = &answered->wrote[2];
-    const struct bytes *text = &answered->wrote[3];
-    const struct bytes *uri = &answered->wrote[4];
+    unsigned lowest = STUIVERHAAG_DONE;
 
-    must(stuiverhaag_field(answer) == 0, "After 0 there is a field.");
-    if (header->length == 0) {
-        must(answer == 0, "A Cancel that activates nothing has more than 0.");
-        return;
+    for (size_t i = 0; i < asked->count; i++) {
+        unsigned decided = decided_by(&asked->used[i]);
+
+        if (decided != STUIVERHAAG_DONE && (lowest == STUIVERHAAG_DONE || decided < lowest))
+            lowest = decided;
     }
-    must(is_header_length(header->length), "The header has a length that no header has.");
+    must(lowest == STUIVERHAAG_DONE || number == lowest || number == STUIVERHAAG_BOARD_RULES,
+         "The number is not the one that a length or the station decides.");
+    must(number < STUIVERHAAG_OUTPUT_SHORT || number > STUIVERHAAG_MESSAGE_LENGTH_BAD || number == lowest,
+         "Number 2, 3 or 4 does not go with the lengths and the station.");
+}
+
+/* The text and the audio of either mode, one by one and beside each other. */
+static void check_text(uint64_t answer, const struct bytes *text, const struct bytes *uri)
+{
     must(text->length > 0 && text->length <= STUIVERHAAG_TEXT_LENGTH, "The text has no byte, or more than 1,800.");
     must(is_printable(text), "The text has a byte that is none of 32 to 126.");
-    must(stuiverhaag_audio(answer) <= STUIVERHAAG_AUDIO_STREAMING_MP3 && stuiverhaag_carry(answer) <= 1,
-         "Audio or carry is none of its numbers.");
+    must(stuiverhaag_audio(answer) <= STUIVERHAAG_AUDIO_STREAMING_MP3, "The audio is none of its numbers.");
     must((stuiverhaag_audio(answer) == STUIVERHAAG_AUDIO_NONE) == (uri->length == 0),
          "There is a uri without audio, or none with it.");
     must(uri->length <= STUIVERHAAG_URI_LENGTH, "The uri has more than 1,024 bytes.");
     must(is_printable(uri), "The uri has a byte that is none of 32 to 126.");
+}
+
+/* The parts of a conversion that answered 0. */
+static void check_converted(const struct answered *answered)
+{
+    uint64_t answer = answered->answer;
+    size_t header_length = answered->wrote[2].length;
+
+    must(stuiverhaag_field(answer) == 0, "After 0 there is a field.");
+    if (header_length == 0) {
+        must(answer == 0, "A Cancel that activates nothing has more than 0.");
+        return;
+    }
+    must(is_header_length(header_length), "The header has a length that no header has.");
+    must(stuiverhaag_carry(answer) <= 1, "The carry is neither 0 nor 1.");
+    check_text(answer, &answered->wrote[3], &answered->wrote[4]);
+}
+
+/* The same of the Canadian mode, which has no header and no carry. */
+static void check_canadian(const struct answered *answered)
+{
+    uint64_t answer = answered->answer;
+
+    must(stuiverhaag_field(answer) == 0 && stuiverhaag_header_length(answer) == 0 && stuiverhaag_carry(answer) == 0,
+         "The answer has more than a text and an audio.");
+    check_text(answer, &answered->wrote[1], &answered->wrote[2]);
 }
 
 static void check_read(uint64_t answer, size_t length)
@@ -211,6 +232,9 @@ static void check_done(const struct asked *asked, const struct answered *answere
     case CONVERT:
         check_converted(answered);
         break;
+    case CANADIAN:
+        check_canadian(answered);
+        break;
     case READ_HEADER:
         check_read(answer, asked->used[0].slice.length);
         break;
@@ -229,15 +253,22 @@ static void check_done(const struct asked *asked, const struct answered *answere
 /* ---- making a call */
 
 /* How many bytes of a slice the answer says were written. After 0 any byte of a board may be another. */
-static size_t written(const struct asked *asked, uint64_t answer, size_t which)
+static size_t written(const struct used *used, uint64_t answer)
 {
-    if (asked->used[which].use == IS_READ || stuiverhaag_number(answer) != STUIVERHAAG_DONE)
+    if (stuiverhaag_number(answer) != STUIVERHAAG_DONE)
         return 0;
-    if (asked->used[which].use == IS_CHANGED)
-        return asked->used[which].slice.length;
-    if (asked->call == WRITE_HEADER || which == 2)
+    switch (used->use) {
+    case BOARD:
+        return used->slice.length;
+    case HEADER_OUTPUT:
         return stuiverhaag_header_length(answer);
-    return which == 3 ? stuiverhaag_text_length(answer) : stuiverhaag_uri_length(answer);
+    case TEXT_OUTPUT:
+        return stuiverhaag_text_length(answer);
+    case URI_OUTPUT:
+        return stuiverhaag_uri_length(answer);
+    default:
+        return 0;
+    }
 }
 
 static void print_asked(const struct asked *asked)
@@ -249,11 +280,11 @@ static void print_asked(const struct asked *asked)
         printf("  originator %u, period %u, day %u, hour %u, minute %u\n", (unsigned)parts->originator,
                (unsigned)parts->period, (unsigned)parts->day, (unsigned)parts->hour, (unsigned)parts->minute);
     for (size_t i = 0; i < asked->count; i++) {
-        size_t length = asked->used[i].slice.length;
+        struct slice slice = asked->used[i].slice;
 
-        printf("  %lu bytes ", (unsigned long)length);
-        for (size_t k = 0; asked->used[i].use != IS_WRITTEN && k < length % WIDE; k++)
-            printf("%02x", (unsigned)asked->used[i].slice.bytes[k]);
+        printf("  %lu bytes ", (unsigned long)slice.length);
+        for (size_t k = 0; slice.bytes != NULL && k < slice.length % WIDE; k++)
+            printf("%02x", (unsigned)slice.bytes[k]);
         putchar('\n');
     }
     fflush(stdout);
@@ -269,6 +300,9 @@ static uint64_t make_call(const struct asked *asked, uint8_t *const *lent)
         return stuiverhaag_convert(lent[0], used[0].slice.length, lent[1], used[1].slice.length,
                                    lent[2], used[2].slice.length, lent[3], used[3].slice.length,
                                    lent[4], used[4].slice.length);
+    case CANADIAN:
+        return stuiverhaag_canadian(lent[0], used[0].slice.length, lent[1], used[1].slice.length,
+                                    lent[2], used[2].slice.length);
     case READ_HEADER:
         return stuiverhaag_read_header(lent[0], used[0].slice.length);
     case WRITE_HEADER:
@@ -305,8 +339,7 @@ static void ask_once(const struct asked *asked, enum side side, struct answered 
     for (size_t i = 0; i < asked->count; i++) {
         const struct used *used = &asked->used[i];
 
-        lent[i] = lend(i, used->use == IS_WRITTEN ? NULL : used->slice.bytes, used->slice.length, side,
-                       used->use == IS_READ);
+        lent[i] = lend(i, used->slice.bytes, used->slice.length, side, used->use < BOARD);
     }
     place.calls++;
     answered->answer = make_call(asked, lent);
@@ -314,7 +347,7 @@ static void ask_once(const struct asked *asked, enum side side, struct answered 
     count(asked, answered->answer);
     check_decided(asked, stuiverhaag_number(answered->answer));
     for (size_t i = 0; i < asked->count; i++) {
-        size_t length = written(asked, answered->answer, i);
+        size_t length = written(&asked->used[i], answered->answer);
 
         compare(i, length);
         answered->wrote[i].length = 0;
@@ -345,35 +378,39 @@ static uint64_t ask(const struct asked *asked)
 
 /* ---- the calls */
 
-static struct used is_read(struct slice slice)
+static struct used output(enum use use, size_t length)
 {
-    return (struct used){slice, IS_READ};
-}
-
-static struct used is_written(size_t length)
-{
-    return (struct used){{NULL, length}, IS_WRITTEN};
+    return (struct used){use, {NULL, length}};
 }
 
 uint64_t convert(struct slice message, struct slice station, struct lengths lengths)
 {
-    struct asked asked = {CONVERT, NULL, {is_read(message), is_read(station), is_written(lengths.header),
-                          is_written(lengths.text), is_written(lengths.uri)}, 5};
+    struct asked asked = {CONVERT, NULL, {{MESSAGE, message}, {STATION, station},
+                          output(HEADER_OUTPUT, lengths.header), output(TEXT_OUTPUT, lengths.text),
+                          output(URI_OUTPUT, lengths.uri)}, 5};
+
+    return ask(&asked);
+}
+
+uint64_t canadian(struct slice message, struct lengths lengths)
+{
+    struct asked asked = {CANADIAN, NULL, {{MESSAGE, message}, output(TEXT_OUTPUT, lengths.text),
+                          output(URI_OUTPUT, lengths.uri)}, 3};
 
     return ask(&asked);
 }
 
 uint64_t read_header(struct slice header)
 {
-    struct asked asked = {READ_HEADER, NULL, {is_read(header)}, 1};
+    struct asked asked = {READ_HEADER, NULL, {{HEADER, header}}, 1};
 
     return ask(&asked);
 }
 
 uint64_t write_header(const struct parts *parts, size_t out_length)
 {
-    struct asked asked = {WRITE_HEADER, parts, {is_read(parts->event), is_read(parts->locations),
-                          is_read(parts->station), is_written(out_length)}, 4};
+    struct asked asked = {WRITE_HEADER, parts, {{PART, parts->event}, {PART, parts->locations},
+                          {STATION, parts->station}, output(HEADER_OUTPUT, out_length)}, 4};
 
     return ask(&asked);
 }
@@ -390,14 +427,14 @@ static uint64_t ask_board(const struct asked *asked, struct bytes *board)
 
 uint64_t offer(struct bytes *board, struct slice message)
 {
-    struct asked asked = {OFFER, NULL, {{slice_of(board), IS_CHANGED}, is_read(message)}, 2};
+    struct asked asked = {OFFER, NULL, {{BOARD, slice_of(board)}, {MESSAGE, message}}, 2};
 
     return ask_board(&asked, board);
 }
 
 uint64_t hand_out(struct bytes *board)
 {
-    struct asked asked = {HAND_OUT, NULL, {{slice_of(board), IS_CHANGED}}, 1};
+    struct asked asked = {HAND_OUT, NULL, {{BOARD, slice_of(board)}}, 1};
 
     return ask_board(&asked, board);
 }
@@ -462,6 +499,7 @@ bool print_counts(void)
     for (enum call call = CONVERT; call < CALLS; call++)
         seen = print_call(call) && seen;
     seen = print_fields(CONVERT) && seen;
+    seen = print_fields(CANADIAN) && seen;
     seen = print_fields(OFFER) && seen;
     printf("%s: after 0 ", names[CONVERT]);
     print_grouped(quiet);

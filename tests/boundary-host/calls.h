@@ -8,7 +8,7 @@
 
 #include "chance.h"
 
-enum call { CONVERT, READ_HEADER, WRITE_HEADER, OFFER, HAND_OUT, CALLS };
+enum call { CONVERT, CANADIAN, READ_HEADER, WRITE_HEADER, OFFER, HAND_OUT, CALLS };
 
 struct slice {
     const uint8_t *bytes;
@@ -21,7 +21,7 @@ struct parts {
     struct slice event, locations, station;
 };
 
-/* How long the outputs of a conversion are lent. */
+/* How long the outputs of a conversion are lent. In the Canadian mode there is no header. */
 struct lengths {
     size_t header, text, uri;
 };
@@ -29,6 +29,7 @@ struct lengths {
 struct slice slice_of(const struct bytes *bytes);
 
 uint64_t convert(struct slice message, struct slice station, struct lengths lengths);
+uint64_t canadian(struct slice message, struct lengths lengths);
 uint64_t read_header(struct slice header);
 uint64_t write_header(const struct parts *parts, size_t out_length);
 
@@ -38,6 +39,9 @@ uint64_t hand_out(struct bytes *board);
 
 /* What the last conversion or the last writing of a header wrote as the header. */
 struct slice written_header(void);
+
+/* What the last conversion, in either mode, wrote as the uri. */
+struct slice written_uri(void);
 
 /* Prints every call before it is made. */
 void print_calls(void);

@@ -24,7 +24,7 @@ static const struct lengths just_enough = {STUIVERHAAG_HEADER_LENGTH, STUIVERHAA
 
 /* How often what one call gave was held beside what another gave. */
 static struct {
-    unsigned long written_again, read_again, notices, taken_again, successors, orders;
+    unsigned long written_again, read_again, modes, notices, taken_again, successors, orders;
 } compared;
 
 /* ---- headers */
@@ -238,17 +238,64 @@ static void check_convert(struct slice message, struct slice station, struct len
         broken("The header of a conversion is refused.");
 }
 
-static void case_convert(void)
+static struct lengths draw_lengths(void)
 {
-    static struct bytes message, station;
     struct lengths lengths;
 
     lengths.header = draw_length(STUIVERHAAG_HEADER_LENGTH);
     lengths.text = draw_length(STUIVERHAAG_TEXT_LENGTH);
     lengths.uri = draw_length(STUIVERHAAG_URI_LENGTH);
+    return lengths;
+}
+
+static void case_convert(void)
+{
+    static struct bytes message, station;
+    struct lengths lengths = draw_lengths();
+
     any_message(&message);
     put_station(&station);
     check_convert(slice_of(&message), slice_of(&station), lengths);
+}
+
+/* ---- the Canadian mode */
+
+/* Whether this is a refusal of 4 to 9, the numbers that both modes ask of a message. */
+static bool refuses_in_both(uint64_t answer)
+{
+    unsigned number = stuiverhaag_number(answer);
+
+    return number >= STUIVERHAAG_MESSAGE_LENGTH_BAD && number <= STUIVERHAAG_ACK_OR_ERROR;
+}
+
+/* Both modes refuse a message alike, and where both give a text, they choose the same audio. */
+static void check_modes(struct slice message)
+{
+    uint8_t uri[STUIVERHAAG_URI_LENGTH];
+    uint64_t answer = canadian(message, just_enough);
+    size_t length = written_uri().length;
+    uint64_t converted;
+
+    memcpy(uri, written_uri().bytes, length);
+    converted = convert(message, bench_station, just_enough);
+    if ((refuses_in_both(answer) || refuses_in_both(converted)) && answer != converted)
+        broken("One mode refuses a message otherwise than the other.");
+    if (stuiverhaag_text_length(answer) == 0 || stuiverhaag_text_length(converted) == 0)
+        return;
+    if (stuiverhaag_audio(answer) != stuiverhaag_audio(converted) || written_uri().length != length ||
+        memcmp(written_uri().bytes, uri, length) != 0)
+        broken("One mode chooses another audio than the other.");
+    compared.modes += length > 0;
+}
+
+static void case_canadian(void)
+{
+    static struct bytes message;
+
+    any_message(&message);
+    canadian(slice_of(&message), draw_lengths());
+    if (once_in(4))
+        check_modes(slice_of(&message));
 }
 
 /* ---- boards */
@@ -302,7 +349,7 @@ static unsigned check_offer(struct bytes *board, struct slice message)
     return STUIVERHAAG_DONE;
 }
 
-/* A message that ends at each of its places, converted and offered. */
+/* A message that ends at each of its places, converted in both modes and offered. */
 static void case_cut(void)
 {
     static struct bytes message, board;
@@ -314,6 +361,7 @@ static void case_cut(void)
         struct slice cut = {message.byte, length};
 
         check_convert(cut, bench_station, just_enough);
+        canadian(cut, just_enough);
         empty_board(&board, 3);
         check_offer(&board, cut);
     }
@@ -468,13 +516,16 @@ static struct slice widened(struct slice slice)
 static void wide_message(void)
 {
     static struct bytes message, board;
+    struct lengths wide_enough = {WIDE, WIDE + 1, WIDE + 1023};
     struct alert alert;
 
     draw_alert(&alert);
     write_alert(&message, &alert);
-    check_convert(slice_of(&message), bench_station, (struct lengths){WIDE, WIDE + 1, WIDE + 1023});
+    check_convert(slice_of(&message), bench_station, wide_enough);
     check_convert(widened(slice_of(&message)), bench_station, just_enough);
     check_convert(slice_of(&message), widened(bench_station), just_enough);
+    canadian(slice_of(&message), wide_enough);
+    canadian(widened(slice_of(&message)), just_enough);
     empty_board(&board, 2);
     check_offer(&board, widened(slice_of(&message)));
     board.length += WIDE;
@@ -519,8 +570,10 @@ void run_case(unsigned long number)
         wide_message();
     else if (kind < 18 && lends_wide())
         wide_header();
-    else if (kind < 7800)
+    else if (kind < 5400)
         case_convert();
+    else if (kind < 7800)
+        case_canadian();
     else if (kind < 8400)
         case_read();
     else if (kind < 9000)
@@ -549,6 +602,7 @@ bool print_compared(void)
     puts("calls held beside each other:");
     all = print_compared_of(compared.written_again, "headers read, and written again to the same bytes") && all;
     all = print_compared_of(compared.read_again, "headers written, and read again as the same parts") && all;
+    all = print_compared_of(compared.modes, "uris of the Canadian mode, the same in a conversion") && all;
     all = print_compared_of(compared.notices, "headers of conversions, on a board after an offer") && all;
     all = print_compared_of(compared.taken_again, "offers that added, made again to add nothing") && all;
     all = print_compared_of(compared.successors, "headers handed out behind another, in byte order") && all;

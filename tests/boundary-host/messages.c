@@ -15,8 +15,9 @@ static const char *const tokens[] = {
     "<", "</", ">", "/>", "&", "&#", "&#x", ";", "&lt;", "&gt;", "&amp;", "&quot;", "&apos;", "&#65;", "&#x41;", "]]>",
     "]]", "<!--", "-->", "--", "<!", "<?xml ", "?>", "<![CDATA[", "<!DOCTYPE ", "'", "\"", "=", " ", "\n", "\t", "\r",
     ":", "p:", "xmlns", "xmlns:p", NAMESPACE, " xmlns=\"" NAMESPACE "\"", "SAME", "CEM", "024031", "Actual", "Alert",
-    "Cancel", "Public", "EAS-ORG", "EASText", "EAS-Must-Carry", "True", "CIV", "en-US", "2010-04-05T14:00:30-04:00",
-    "a,b,2010-04-05T14:00:30-04:00", "audio/x-ipaws-audio-mp3", "0", "9", "a", "Z", "-", "\x7f", "\x80", "\xff", "\x01",
+    "Cancel", "Public", "EAS-ORG", "EASText", "EAS-Must-Carry", "layer:AEA:2.0:broadcastText", "True", "CIV", "en-US",
+    "2010-04-05T14:00:30-04:00", "a,b,2010-04-05T14:00:30-04:00", "audio/x-ipaws-audio-mp3", "0", "9", "a", "Z", "-",
+    "\x7f", "\x80", "\xff", "\x01",
 };
 
 /* Tokens of markup in any order, behind a sound start once in a while. */
