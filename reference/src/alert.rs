@@ -6,6 +6,7 @@ use crate::markup::{read_document, Attributes, Broken, Tag, Visitor};
 use crate::value::{Decoded, Value};
 
 const NAMESPACE: &[u8] = b"urn:oasis:names:tc:emergency:cap:1.2";
+const BROADCAST_TEXT: &[u8] = b"layer:AEA:2.0:broadcastText";
 
 /// A leaf within its element: how often it stands there, and what the first one holds.
 #[derive(Clone, Copy, Default)]
@@ -54,6 +55,8 @@ pub struct Info<'a> {
     pub originator: Option<Value<'a>>,
     pub eas_text: Option<Value<'a>>,
     pub must_carry: Option<Value<'a>>,
+    /// The value of the first broadcastText parameter that is not empty.
+    pub broadcast_text: Option<Value<'a>>,
     pub audio: Audio,
     pub uri: Value<'a>,
 }
@@ -74,6 +77,7 @@ impl Info<'_> {
             originator: None,
             eas_text: None,
             must_carry: None,
+            broadcast_text: None,
             audio: Audio::None,
             uri: Value::of(b""),
         }
@@ -98,8 +102,8 @@ impl Info<'_> {
     }
 
     fn is_english(&self) -> bool {
-        let letters = self.language.value().map(|b| b.to_ascii_lowercase());
-        self.language.value().is_empty() || letters.eq(*b"en-us")
+        let language = self.language.value();
+        language.is_empty() || language.is_in_any_case(b"en-US")
     }
 }
 
@@ -245,6 +249,8 @@ impl<'a> Alert<'a> {
             &mut self.info.eas_text
         } else if name.is(b"EAS-Must-Carry") {
             &mut self.info.must_carry
+        } else if name.is_in_any_case(BROADCAST_TEXT) && !value.is_empty() {
+            &mut self.info.broadcast_text
         } else {
             return;
         };

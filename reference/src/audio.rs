@@ -1,5 +1,6 @@
 //! The audio choice.
 
+use crate::octets::Output;
 use crate::value::Value;
 
 /// The most bytes of a uri, for which the lent output must have room.
@@ -27,4 +28,13 @@ impl Audio {
             Audio::None
         }
     }
+}
+
+/// Writes the uri of an audio choice, nothing without audio, and returns its length.
+pub fn put_uri(audio: Audio, value: Value, uri: &mut [u8]) -> usize {
+    let mut uri = Output::on(uri);
+    if audio != Audio::None {
+        uri.put_each(value);
+    }
+    uri.length()
 }

@@ -1,11 +1,9 @@
 //! The conversion.
 
-use crate::audio::{Audio, URI};
+use crate::audio::{put_uri, Audio, URI};
 use crate::header::{is_station, put_header, HEADER};
 use crate::judge::judge;
-use crate::octets::Output;
 use crate::refusal::Refusal;
-use crate::value::Value;
 use crate::wording::{put_text, TEXT};
 
 /// What was written: the lengths of header, uri and text, and the choices. All nothing
@@ -45,12 +43,4 @@ pub fn convert(
         carry: info.must_carry.is_some_and(|value| value.is(b"True")),
         text: put_text(&parts, info, text),
     })
-}
-
-fn put_uri(audio: Audio, value: Value, uri: &mut [u8]) -> usize {
-    let mut uri = Output::on(uri);
-    if audio != Audio::None {
-        uri.put_each(value);
-    }
-    uri.length()
 }

@@ -1,4 +1,5 @@
-//! Judges a message: numbers 4 to 14, the lowest that applies.
+//! Judges a message, the lowest number that applies: 4 to 9 in every mode, 10 to 14 in the
+//! American one.
 
 use crate::alert::{Alert, Info, Leaf};
 use crate::clock::{instant, period, Moment};
@@ -65,7 +66,8 @@ impl Activation<'_> {
     }
 }
 
-pub fn judge(message: &[u8]) -> Result<Judged<'_>, Refusal> {
+/// Numbers 4 to 9: what is read in a message, and the leaves that every message has.
+pub fn judge_alert(message: &[u8]) -> Result<(Alert<'_>, Leaves), Refusal> {
     if message.is_empty() || message.len() > LONGEST_MESSAGE {
         return Err(Refusal::LENGTH);
     }
@@ -80,6 +82,12 @@ pub fn judge(message: &[u8]) -> Result<Judged<'_>, Refusal> {
     if leaves.kind >= ACK {
         return Err(Refusal::ACK_OR_ERROR);
     }
+    Ok((alert, leaves))
+}
+
+/// Numbers 4 to 14.
+pub fn judge(message: &[u8]) -> Result<Judged<'_>, Refusal> {
+    let (alert, leaves) = judge_alert(message)?;
     let references = if leaves.kind == ALERT {
         None
     } else {
@@ -94,7 +102,7 @@ pub fn judge(message: &[u8]) -> Result<Judged<'_>, Refusal> {
 }
 
 /// The leaves that every message has; status, kind and scope as places in their lists.
-struct Leaves {
+pub struct Leaves {
     identity: Identity,
     status: usize,
     kind: usize,

@@ -1,9 +1,10 @@
 //! An independent converter of CAP messages to EAS headers, alert text and an audio choice,
-//! with its board of alerts. No call uses a heap; all work on lent bytes and rows.
+//! with its board of alerts, and its Canadian mode of text and audio choice. No call uses a heap; all work on lent bytes and rows.
 
 mod alert;
 mod audio;
 mod board;
+mod canadian;
 mod clock;
 mod convert;
 mod header;
@@ -17,6 +18,7 @@ mod wording;
 
 pub use audio::{Audio, URI};
 pub use board::{hand_out, list, offer, Row, MOST_RECORDS, RECORD};
+pub use canadian::{canadian, Canadian};
 pub use convert::{convert, Converted};
 pub use header::{read_header, write_header, Parts, HEADER};
 pub use program::{program, LINES};

@@ -28,6 +28,7 @@ impl Refusal {
     pub(crate) const ROOM: Refusal = Refusal::of(15);
     pub(crate) const NOTHING_DUE: Refusal = Refusal::of(16);
     pub(crate) const NO_HEADER: Refusal = Refusal::of(17);
+    pub(crate) const NO_TEXT: Refusal = Refusal::of(18);
 
     pub(crate) const fn leaf(field: u8) -> Refusal {
         Refusal { number: 7, field }

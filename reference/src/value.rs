@@ -68,6 +68,11 @@ impl<'a> Value<'a> {
         self.eq(bytes.iter().copied())
     }
 
+    /// Whether it is these bytes, ASCII letters in any case.
+    pub fn is_in_any_case(self, bytes: &[u8]) -> bool {
+        self.map(|b| b.to_ascii_lowercase()).eq(bytes.iter().map(u8::to_ascii_lowercase))
+    }
+
     pub fn is_empty(mut self) -> bool {
         self.next().is_none()
     }

@@ -25,6 +25,25 @@ fn conversions() -> Vec<(usize, String)> {
     answers
 }
 
+/// Answers of the Canadian mode, likewise.
+fn canadians() -> Vec<(usize, String)> {
+    let said = |audio, uri: &str, text: &str| format!("0 0 {audio} {uri} {text}");
+    let mut answers = vec![
+        (400, said(0, "-", "54")),
+        (100, said(0, "-", "4254")),
+        (80, said(0, "-", &"54".repeat(1800))),
+        (20, said(0, "-", &("54".repeat(1799) + "20"))),
+        (10, said(1, "75", "54")),
+        (10, said(2, "75", "54")),
+        (10, said(3, "75", "54")),
+        (80, "5 0 0 - -".to_string()),
+        (100, "7 1 0 - -".to_string()),
+        (50, "18 0 0 - -".to_string()),
+    ];
+    answers.extend([2, 4, 6, 8, 9].map(|number| (20, format!("{number} 0 0 - -"))));
+    answers
+}
+
 fn lists() -> Vec<(usize, String)> {
     let answers = ["0 0 -", "0 1 3:1", "0 2 3:1,0:1", "0 1 3:2", "1 0 -", "2 0 -"];
     answers.map(|answer| (100, answer.to_string())).to_vec()
@@ -51,6 +70,7 @@ fn faults_without(call: &str, mut answers: Vec<(usize, String)>, answer: &str) -
 #[test]
 fn enough_of_each_passes() {
     assert!(faults("convert", &conversions()).is_empty());
+    assert!(faults("canadian", &canadians()).is_empty());
     assert!(faults("list", &lists()).is_empty());
 }
 
@@ -72,10 +92,37 @@ fn a_kind_of_conversion_that_is_lacking_is_refused() {
 }
 
 #[test]
+fn a_kind_of_canadian_text_that_is_lacking_is_refused() {
+    let full = format!("0 0 0 - {}", "54".repeat(1800));
+    let cut = format!("0 0 0 - {}20", "54".repeat(1799));
+    let lacking = [
+        ("0 0 0 - 4254", "0 times with a broadcastText, not 60"),
+        (&full, "20 times with a text of 1,800 characters, not 49"),
+        (&cut, "0 times with a space left by the cut, not 12"),
+        ("0 0 1 75 54", "0 times with audio 1, not 5"),
+        ("0 0 2 75 54", "0 times with audio 2, not 5"),
+        ("0 0 3 75 54", "0 times with audio 3, not 5"),
+    ];
+    for (answer, what) in lacking {
+        let found = faults_without("canadian", canadians(), answer);
+        assert_eq!(found, [format!("canadian was compared {what}.")]);
+    }
+}
+
+#[test]
 fn conversions_that_are_all_alike_are_refused() {
     let found = faults("convert", &[(1000, "0 0 5a 3 75 1 54".to_string())]);
     for what in ["audio 0", "must-carry 0"] {
         let sentence = format!("convert was compared 0 times with {what}, not 230.");
+        assert!(found.contains(&sentence), "{sentence}");
+    }
+}
+
+#[test]
+fn canadian_texts_that_are_all_broadcast_are_refused() {
+    let found = faults("canadian", &[(1000, "0 0 1 75 4254".to_string())]);
+    for what in ["a description, not 185", "audio 0, not 230"] {
+        let sentence = format!("canadian was compared 0 times with {what}.");
         assert!(found.contains(&sentence), "{sentence}");
     }
 }
@@ -90,8 +137,9 @@ fn lists_that_have_one_row_or_one_notice_in_each_are_refused() {
 
 #[test]
 fn a_number_that_a_call_can_give_and_did_not_is_refused() {
-    let calls: [(&str, &[u32]); 7] = [
+    let calls: [(&str, &[u32]); 8] = [
         ("convert", &[0, 2, 3, 4, 5, 6, 7, 8, 9, 10, 11, 12, 13, 14]),
+        ("canadian", &[0, 2, 4, 5, 6, 7, 8, 9, 18]),
         ("offer", &[0, 1, 4, 5, 6, 7, 8, 9, 10, 11, 12, 13, 14, 15]),
         ("handout", &[0, 1, 15, 16]),
         ("list", &[0, 1, 2]),

@@ -18,6 +18,16 @@ fn readings_are_answered() {
 }
 
 #[test]
+fn readings_of_document_02_are_answered() {
+    check(include_str!("../../tests/vectors/readings-02.txt"));
+}
+
+#[test]
+fn the_canadian_mode_is_answered() {
+    check(include_str!("../../tests/vectors/canadian.txt"));
+}
+
+#[test]
 fn the_sample_is_answered() {
     check(include_str!("../../tests/vectors/sample.txt"));
 }
@@ -39,6 +49,9 @@ fn lines_that_are_no_cases() {
         "list - 0000000001",
         "convert - - 252 1800",
         "convert - - 252 1800 -1",
+        "canadian - 1800",
+        "canadian - 1800 65281",
+        "canadian - 1800 1024 0",
         "program",
     ];
     for line in odd {

@@ -5,6 +5,8 @@
 
 #[path = "generate/boards.rs"]
 mod boards;
+#[path = "generate/canadian.rs"]
+mod canadian;
 #[path = "generate/chance.rs"]
 mod chance;
 #[path = "generate/draft.rs"]
@@ -42,8 +44,9 @@ use pairs::Differing;
 const LONGEST_LINE: usize = 200_000;
 
 /// The calls, and how often each comes in its turn.
-const CALLS: [(&str, usize); 7] = [
-    ("convert", 8),
+const CALLS: [(&str, usize); 8] = [
+    ("convert", 6),
+    ("canadian", 4),
     ("offer", 4),
     ("handout", 2),
     ("list", 2),
@@ -72,6 +75,7 @@ impl Generator {
         let (chain, chance) = (&mut self.chain, &mut self.chance);
         match CALLS[call].0 {
             "convert" => messages::convert_case(turn, chance),
+            "canadian" => messages::canadian_case(turn, chance),
             "offer" => boards::offer_case(turn, chain, chance),
             "handout" => boards::hand_out_case(turn, chain, chance),
             "list" => boards::list_case(turn, chain, chance),
@@ -145,7 +149,7 @@ fn main() -> ExitCode {
     let Some(arguments) = Arguments::read(&given) else {
         eprintln!(
             "Give a seed, a count, and perhaps calls joined by commas; for pairs of convert, \
-             offer and program then unread or read."
+             canadian, offer and program then unread or read."
         );
         return ExitCode::FAILURE;
     };

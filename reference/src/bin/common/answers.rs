@@ -8,8 +8,8 @@ mod lent;
 use self::hex::{from_hex, to_hex};
 use self::lent::{byte_pattern, Lent};
 use reference::{
-    convert, hand_out, list, offer, program, read_header, write_header, Parts, Refusal, Row, LINES,
-    RECORD,
+    canadian, convert, hand_out, list, offer, program, read_header, write_header, Parts, Refusal,
+    Row, LINES, RECORD,
 };
 
 const LONGEST_LINE: usize = 200_000;
@@ -23,6 +23,7 @@ pub fn answer(line: &[u8]) -> String {
     let answer = match *call {
         _ if line.len() > LONGEST_LINE => None,
         b"convert" => answer_convert(fields),
+        b"canadian" => answer_canadian(fields),
         b"offer" => answer_offer(fields),
         b"handout" => answer_hand_out(fields),
         b"list" => answer_list(fields),
@@ -51,6 +52,24 @@ fn answer_convert(fields: &[&[u8]]) -> Option<String> {
         done.audio as u8,
         to_hex(uri.answer(done.uri)),
         u8::from(done.carry),
+        to_hex(text.answer(done.text)),
+    ))
+}
+
+fn answer_canadian(fields: &[&[u8]]) -> Option<String> {
+    let [message, text, uri] = fields else {
+        return None;
+    };
+    let message = from_hex(message)?;
+    let mut text = Lent::pattern(cap(text)?, byte_pattern);
+    let mut uri = Lent::pattern(cap(uri)?, byte_pattern);
+    let outcome = canadian(&message, text.items(), uri.items());
+    let done = outcome.unwrap_or_default();
+    let Refusal { number, field } = refusal(outcome);
+    Some(format!(
+        "{number} {field} {} {} {}",
+        done.audio as u8,
+        to_hex(uri.answer(done.uri)),
         to_hex(text.answer(done.text)),
     ))
 }

@@ -17,7 +17,7 @@ struct Call {
 }
 
 #[rustfmt::skip]
-const CALLS: [Call; 7] = [
+const CALLS: [Call; 8] = [
     Call {
         name: "convert",
         numbers: &[
@@ -33,6 +33,22 @@ const CALLS: [Call; 7] = [
             ("must-carry 0", 230, |answer| is_active(answer) && answer[5] == "0"),
             ("must-carry 1", 6, |answer| is_active(answer) && answer[5] == "1"),
             ("a text of 1,800 characters", 18, |answer| is_active(answer) && answer[6].len() == 3600),
+        ],
+    },
+    Call {
+        name: "canadian",
+        numbers: &[
+            (0, 255), (2, 13), (4, 11), (5, 61), (6, 11), (7, 89), (8, 9), (9, 7), (18, 37),
+        ],
+        kinds: &[
+            ("a broadcastText", 70, |answer| is_said(answer) && is_broadcast(answer[4])),
+            ("a description", 185, |answer| is_said(answer) && !is_broadcast(answer[4])),
+            ("a text of 1,800 characters", 56, |answer| is_said(answer) && answer[4].len() == 3600),
+            ("a space left by the cut", 13, |answer| is_said(answer) && answer[4].ends_with("20")),
+            ("audio 0", 230, |answer| is_said(answer) && answer[2] == "0"),
+            ("audio 1", 6, |answer| is_said(answer) && answer[2] == "1"),
+            ("audio 2", 6, |answer| is_said(answer) && answer[2] == "2"),
+            ("audio 3", 6, |answer| is_said(answer) && answer[2] == "3"),
         ],
     },
     Call {
@@ -67,6 +83,16 @@ const CALLS: [Call; 7] = [
 /// Whether a conversion gives a header, text and audio choice.
 fn is_active(answer: &[&str]) -> bool {
     matches!(answer, ["0", _, header, _, _, _, _] if *header != "-")
+}
+
+/// Whether the Canadian mode gives a text and an audio choice.
+fn is_said(answer: &[&str]) -> bool {
+    matches!(answer, ["0", _, _, _, text] if *text != "-")
+}
+
+/// Whether a text in hex is that of a broadcastText: in generated messages these alone begin with B.
+fn is_broadcast(text: &str) -> bool {
+    text.starts_with("42")
 }
 
 fn counts_several(rows: &str) -> bool {

@@ -10,6 +10,9 @@ use crate::tally::{call_of, Tally, SHOWN_DIFFERENCES};
 /// How many of 1,000 pairs must be of each kind of difference.
 const FLOOR: usize = 8;
 
+/// How many of 1,000 pairs of a call that differ in what is not read must be answered 0.
+const FLOOR_OF_ZEROS: usize = 250;
+
 /// The kinds of difference in what is not read, and in what is read.
 #[rustfmt::skip]
 const UNREAD: [&str; 18] = [
@@ -90,6 +93,7 @@ impl Count {
 pub struct Pairs {
     differing: Differing,
     all: Count,
+    by_call: BTreeMap<String, Count>,
     by_kind: BTreeMap<&'static str, Count>,
     /// Of pairs that are to be answered alike; of single cases where they are not.
     tally: Tally,
@@ -98,15 +102,17 @@ pub struct Pairs {
 impl Pairs {
     fn new(differing: Differing) -> Pairs {
         let kinds = differing.kinds().iter().map(|kind| (*kind, Count::default()));
-        let (all, by_kind) = (Count::default(), kinds.collect());
-        Pairs { differing, all, by_kind, tally: Tally::default() }
+        let (all, by_call, by_kind) = (Count::default(), BTreeMap::new(), kinds.collect());
+        Pairs { differing, all, by_call, by_kind, tally: Tally::default() }
     }
 
     /// Compares the answers to two cases.
     fn compare(&mut self, kinds: &[&str], names: &[String], first: Asked, second: Asked) {
-        let zero = number(call_of(&first.case), &first.answers[0]) == Some(0);
+        let call = call_of(&first.case);
+        let zero = number(call, &first.answers[0]) == Some(0);
         let otherwise = first.answers != second.answers;
         self.all.add(zero, otherwise);
+        self.by_call.entry(call.to_string()).or_default().add(zero, otherwise);
         for (_, count) in self.by_kind.iter_mut().filter(|(kind, _)| kinds.contains(kind)) {
             count.add(zero, otherwise);
         }
@@ -132,6 +138,9 @@ impl Pairs {
 
     pub fn print(&self, calls: &[&str]) {
         println!("{}", self.all.text());
+        for (call, count) in &self.by_call {
+            println!("  of {call}: {}", count.text());
+        }
         for (kind, count) in &self.by_kind {
             println!("  {kind}: {}", count.text());
         }
@@ -170,6 +179,12 @@ impl Pairs {
         if zeros * 2 < least {
             faults.push(format!("{zeros} pairs were answered 0, not half of {least}."));
         }
+        for (call, Count { pairs, zeros, .. }) in &self.by_call {
+            let least = (pairs * FLOOR_OF_ZEROS / 1000).max(1);
+            if *zeros < least {
+                faults.push(format!("{zeros} pairs of {call} were answered 0, not {least}."));
+            }
+        }
         let least = self.floor();
         for (kind, Count { zeros, .. }) in &self.by_kind {
             if *zeros < least {
@@ -179,9 +194,11 @@ impl Pairs {
     }
 
     fn add_faults_of_read(&self, faults: &mut Vec<String>) {
-        let Count { pairs, otherwise, .. } = self.all;
-        if otherwise * 2 <= pairs {
-            faults.push(format!("Only {otherwise} of {pairs} pairs were answered otherwise."));
+        for (call, Count { pairs, otherwise, .. }) in &self.by_call {
+            if otherwise * 2 <= *pairs {
+                let those = format!("{otherwise} of {pairs} pairs of {call}");
+                faults.push(format!("Only {those} were answered otherwise."));
+            }
         }
         let least = self.floor();
         for (kind, Count { pairs, .. }) in &self.by_kind {
@@ -292,10 +309,30 @@ mod tests {
     #[test]
     fn a_control_that_is_mostly_equal_fails() {
         let found = faults(Differing::Read, 2, &[ZERO, SEVEN]);
-        assert_eq!(found, ["Only 0 of 2 pairs were answered otherwise."]);
+        assert_eq!(found, ["Only 0 of 2 pairs of convert were answered otherwise."]);
         let found = faults(Differing::Read, 2, &[ZERO, OTHERWISE]);
-        assert_eq!(found, ["Only 1 of 2 pairs were answered otherwise."]);
+        assert_eq!(found, ["Only 1 of 2 pairs of convert were answered otherwise."]);
         assert!(faults(Differing::Read, 2, &[ZERO, OTHERWISE, OTHERWISE]).is_empty());
+    }
+
+    /// Conversions that meet what is asked of pairs, and one pair of another call.
+    fn faults_beside(differing: Differing, pair: [&str; 2], other: [&str; 2]) -> Vec<String> {
+        let kinds = differing.kinds().join(",");
+        let two = |call: &str| format!("pair {kinds}\n{call} a\n{call} b\n");
+        let said = |[first, second]: [&str; 2]| format!("?\n{first}\n{second}\n");
+        let cases = two("convert").repeat(4) + &two("canadian");
+        let answers = said(pair).repeat(4) + &said(other);
+        faults_of(differing, 5, &cases, &answers, &answers)
+    }
+
+    #[test]
+    fn a_call_that_is_not_compared_in_earnest_fails() {
+        let found = faults_beside(Differing::Unread, ZERO, SEVEN);
+        assert_eq!(found, ["0 pairs of canadian were answered 0, not 1."]);
+        assert!(faults_beside(Differing::Unread, ZERO, ZERO).is_empty());
+        let found = faults_beside(Differing::Read, OTHERWISE, ZERO);
+        assert_eq!(found, ["Only 0 of 1 pairs of canadian were answered otherwise."]);
+        assert!(faults_beside(Differing::Read, OTHERWISE, OTHERWISE).is_empty());
     }
 
     #[test]

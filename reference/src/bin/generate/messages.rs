@@ -1,5 +1,6 @@
-//! Cases of messages: convert and program.
+//! Cases of messages: convert, canadian and program.
 
+use crate::canadian::CANADIAN;
 use crate::chance::Chance;
 use crate::draft::Draft;
 use crate::headers::{odd_station, station};
@@ -115,27 +116,55 @@ fn message(turn: usize, chance: &mut Chance) -> Vec<u8> {
     }
 }
 
-pub fn convert_case(turn: usize, chance: &mut Chance) -> String {
-    let message = message(turn, chance);
-    let mut station = station(chance);
-    let mut caps = [252, 1800, 1024];
+/// The lengths of lent outputs, most often long enough.
+fn caps<const COUNT: usize>(
+    least: [usize; COUNT],
+    turn: usize,
+    chance: &mut Chance,
+) -> [usize; COUNT] {
+    let mut caps = least;
     if chance.once_in(4) {
         let over = chance.pick(&[1, 2, 100]);
-        caps[chance.below(3)] += over;
+        caps[chance.below(COUNT)] += over;
     }
     if turn % 20 == 19 {
-        let place = chance.below(3);
+        let place = chance.below(COUNT);
         match chance.below(3) {
             0 => caps[place] -= 1,
             1 => caps[place] = chance.pick(&[0, 1, 100, 65_280]),
             _ => {}
         }
     }
+    caps
+}
+
+pub fn convert_case(turn: usize, chance: &mut Chance) -> String {
+    let message = message(turn, chance);
+    let mut station = station(chance);
+    let [header, text, uri] = caps([252, 1800, 1024], turn, chance);
     if turn % 20 == 19 && chance.once_in(2) || chance.once_in(60) {
         station = odd_station(chance);
     }
-    let [header, text, uri] = caps;
     format!("convert {} {} {header} {text} {uri}", to_hex(&message), to_hex(&station))
+}
+
+/// The message of a turn of the Canadian mode; half of them have one of its own edits.
+fn canadian_message(turn: usize, chance: &mut Chance) -> Vec<u8> {
+    if turn % 20 >= 10 {
+        return message(turn, chance);
+    }
+    let mut draft = sound_draft(1, chance);
+    CANADIAN[(turn / 20 * 10 + turn % 20) % CANADIAN.len()](&mut draft, chance);
+    if chance.once_in(2) {
+        SOUND[0](&mut draft, chance);
+    }
+    written(draft, chance)
+}
+
+pub fn canadian_case(turn: usize, chance: &mut Chance) -> String {
+    let message = canadian_message(turn, chance);
+    let [text, uri] = caps([1800, 1024], turn, chance);
+    format!("canadian {} {text} {uri}", to_hex(&message))
 }
 
 pub fn program_case(turn: usize, chance: &mut Chance) -> String {

@@ -3,12 +3,12 @@
 
 use crate::chance::Chance;
 use crate::hex::{from_hex, to_hex};
-use crate::read::READ;
+use crate::read::{READ, READ_BY_CANADIAN};
 use crate::tree::Tree;
 use crate::unread::{Change, Difference, LATER_INFO, PUT_IN, UNREAD};
 
 /// The calls that take a message.
-pub const CALLS: [&str; 3] = ["convert", "offer", "program"];
+pub const CALLS: [&str; 4] = ["convert", "canadian", "offer", "program"];
 
 /// What differs in the messages of a pair.
 #[derive(Clone, Copy)]
@@ -26,10 +26,11 @@ impl Differing {
         }
     }
 
-    /// Differences of one message, at places apart from each other.
-    fn differences(self, tree: &Tree, chance: &mut Chance) -> Differences {
+    /// Differences of one message of a call, at places apart from each other.
+    fn differences(self, call: &str, tree: &Tree, chance: &mut Chance) -> Differences {
         let mut found = Differences::default();
         match self {
+            Differing::Read if call == "canadian" => found.add(&READ_BY_CANADIAN, tree, chance),
             Differing::Read => found.add(&READ, tree, chance),
             Differing::Unread => {
                 // Few messages have a later info: it is looked for apart.
@@ -102,11 +103,16 @@ fn with_more(message: &[u8], chance: &mut Chance) -> Vec<u8> {
     more.made_in(message)
 }
 
-/// The message with other parts, and the kinds of difference; none where it has no place for
-/// one, or where what came of it is refused with 4 or 5.
-fn changed(message: &[u8], differing: Differing, chance: &mut Chance) -> Option<(Vec<u8>, String)> {
+/// The message of a call with other parts, and the kinds of difference; none where it has no place
+/// for one, or where what came of it is refused with 4 or 5.
+fn changed(
+    call: &str,
+    message: &[u8],
+    differing: Differing,
+    chance: &mut Chance,
+) -> Option<(Vec<u8>, String)> {
     let tree = Tree::of(message);
-    let differences = differing.differences(&tree, chance);
+    let differences = differing.differences(call, &tree, chance);
     let kinds = differences.kinds();
     let other = differences.made_in(message);
     if other == message || !is_allowed(&other) {
@@ -128,7 +134,7 @@ pub fn pair(case: &str, differing: Differing, chance: &mut Chance) -> Option<[St
     let place = if fields[0] == "offer" { 2 } else { 1 };
     let message = from_hex(fields[place].as_bytes()).filter(|message| is_allowed(message))?;
     let first = Some(with_more(&message, chance)).filter(|message| is_allowed(message))?;
-    let (second, kinds) = changed(&first, differing, chance)?;
+    let (second, kinds) = changed(fields[0], &first, differing, chance)?;
     let asked = |message: &[u8]| {
         let (message, mut fields) = (to_hex(message), fields.clone());
         fields[place] = &message;

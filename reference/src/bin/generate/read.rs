@@ -15,6 +15,18 @@ pub const READ: [Difference; 8] = [
     ("later-info-taken-out", |tree, chance| take_out(tree, is_later, chance)),
 ];
 
+/// Differences on which the answers of the Canadian mode hang. They never hang on what is repeated
+/// whole.
+pub const READ_BY_CANADIAN: [Difference; 7] = [
+    ("value-changed", |tree, chance| change_value(tree, is_canadian_leaf, chance)),
+    ("element-put-into-leaf", put_element),
+    ("leaf-repeated", |tree, chance| repeat(tree, is_leaf, chance)),
+    ("leaf-taken-out", |tree, chance| take_out(tree, is_leaf, chance)),
+    ("container-taken-out", |tree, chance| take_out(tree, is_canadian_inner, chance)),
+    ("later-language-changed", |tree, chance| change_value(tree, is_later_language, chance)),
+    ("later-info-taken-out", |tree, chance| take_out(tree, is_later, chance)),
+];
+
 const VALUES: [&str; 9] =
     ["", "x", "SAME", "es", "en-US", "Test", "Cancel", "024031", "2010-04-05T14:45:30-04:00"];
 
@@ -25,6 +37,21 @@ fn is_leaf(element: &Element) -> bool {
 /// An eventCode, a parameter, a geocode, a resource, an area or an info that is not a later one.
 fn is_inner(element: &Element) -> bool {
     element.place.is_container() && !matches!(element.place, Place::Alert | Place::Later)
+}
+
+/// A leaf whose value the Canadian mode asks for more than that it is no fault.
+fn is_canadian_leaf(element: &Element) -> bool {
+    let named = |name: &&[u8]| element.name.ends_with(name);
+    match element.parent {
+        Place::Alert => [&b"status"[..], b"msgType", b"scope"].iter().any(named),
+        Place::Info => [&b"description"[..], b"instruction"].iter().any(named),
+        Place::Parameter | Place::Resource => is_leaf(element),
+        _ => false,
+    }
+}
+
+fn is_canadian_inner(element: &Element) -> bool {
+    matches!(element.place, Place::Info | Place::Parameter | Place::Resource)
 }
 
 fn is_later(element: &Element) -> bool {

@@ -6,10 +6,11 @@ use crate::render::render;
 use crate::times::{time_text, END};
 
 #[rustfmt::skip]
-pub const SOUND: [Edit; 26] = [
-    style, locations, parts, long_parts, long_parts, eas_text, sender_name, period, border_of_time,
-    resources, resources, originator, must_carry, must_carry, languages, update, cancel, quiet,
-    shape, prefix, misplaced, empty_pairs, long_words, references_of_alert, declaration, fill,
+pub const SOUND: [Edit; 27] = [
+    style, locations, parts, long_parts, long_parts, eas_text, broadcast_text, sender_name, period,
+    border_of_time, resources, resources, originator, must_carry, must_carry, languages, update,
+    cancel, quiet, shape, prefix, misplaced, empty_pairs, long_words, references_of_alert,
+    declaration, fill,
 ];
 
 fn style(draft: &mut Draft, chance: &mut Chance) {
@@ -123,6 +124,62 @@ fn eas_text(draft: &mut Draft, chance: &mut Chance) {
     }
 }
 
+/// Names that are not quite that of a broadcastText.
+#[rustfmt::skip]
+const NEARLY: [&str; 11] = [
+    "layer:AEA:2.0:broadcastTex", "layer:AEA:2.0:broadcastTextx", "ayer:AEA:2.0:broadcastText",
+    "xlayer:AEA:2.0:broadcastText", "layer:AEA:2.0:broadcast Text", "layer:AEA:2.1:broadcastText",
+    "layer:AEA:2.0.broadcastText", "layer:AEA:2.0:bboadcastText", "layer:AEA:2.0:", "broadcastText",
+    "layer:AEA:2.0:broadcastText layer:AEA:2.0:broadcastText",
+];
+
+/// The name of a broadcastText in some letter case, some with white space round it.
+fn broadcast_name(chance: &mut Chance) -> String {
+    let name = "layer:AEA:2.0:broadcastText";
+    match chance.below(4) {
+        0 => name.to_string(),
+        1 => format!(" {}\n", name.to_ascii_lowercase()),
+        2 => name.to_ascii_uppercase(),
+        _ => name.chars().map(|c| chance.pick(&[c, c.to_ascii_uppercase()])).collect(),
+    }
+}
+
+/// A broadcastText parameter with this value.
+pub fn broadcast(value: &str, chance: &mut Chance) -> Element {
+    Element::pair("parameter", &broadcast_name(chance), value)
+}
+
+/// A B and so much text. No description begins with B: by that the comparer tells whose text it is.
+pub fn broadcast_value(length: usize, chance: &mut Chance) -> String {
+    format!("B{}", chance.text(length))
+}
+
+/// Up to three parameters named broadcastText or nearly so, before and behind the other parts.
+pub fn broadcast_text(draft: &mut Draft, chance: &mut Chance) {
+    let Some(info) = draft.info() else {
+        return;
+    };
+    for _ in 0..=chance.below(3) {
+        let length = chance.below(60);
+        let value = match chance.below(4) {
+            0 => chance.pick(&["", " \n "]).to_string(),
+            _ => broadcast_value(length, chance),
+        };
+        let parameter = match chance.below(4) {
+            0 => Element::pair("parameter", chance.pick(&NEARLY), &value),
+            _ => broadcast(&value, chance),
+        };
+        if chance.once_in(2) {
+            info.add(parameter);
+        } else {
+            info.add_first(parameter);
+        }
+    }
+    if chance.once_in(3) {
+        info.parameter("EASText", "Beside");
+    }
+}
+
 fn sender_name(draft: &mut Draft, chance: &mut Chance) {
     let length = chance.pick(&[0, 1, 2, 199, 200, 201, 250, 1900]);
     let mut name = chance.text(length);
@@ -172,7 +229,7 @@ fn border_of_time(draft: &mut Draft, chance: &mut Chance) {
 const AUDIO: [&str; 3] =
     ["audio/x-ipaws-audio-mp3", "audio/x-ipaws-audio-wav", "audio/x-ipaws-streaming-audio-mp3"];
 
-fn resources(draft: &mut Draft, chance: &mut Chance) {
+pub fn resources(draft: &mut Draft, chance: &mut Chance) {
     let Some(info) = draft.info() else {
         return;
     };

@@ -11,8 +11,9 @@ pub enum Place {
     Info,
     /// An info behind the first in English, of which only the language is read.
     Later,
-    /// An eventCode, a parameter or a geocode.
-    Pair,
+    Parameter,
+    /// An eventCode or a geocode.
+    Code,
     Resource,
     Area,
     Leaf,
@@ -47,10 +48,11 @@ impl Place {
             )
             | (Place::Info | Place::Later, b"language")
             | (Place::Info, b"expires" | b"senderName" | b"description" | b"instruction")
-            | (Place::Pair, b"valueName" | b"value")
+            | (Place::Parameter | Place::Code, b"valueName" | b"value")
             | (Place::Resource, b"mimeType" | b"uri") => Place::Leaf,
             (Place::Alert, b"info") => Place::Info,
-            (Place::Info, b"eventCode" | b"parameter") | (Place::Area, b"geocode") => Place::Pair,
+            (Place::Info, b"parameter") => Place::Parameter,
+            (Place::Info, b"eventCode") | (Place::Area, b"geocode") => Place::Code,
             (Place::Info, b"resource") => Place::Resource,
             (Place::Info, b"area") => Place::Area,
             _ => Place::Skipped,

@@ -49,8 +49,11 @@ const COMMENTS: [&str; 8] = [
     "<!--</identifier><identifier>B2-->",
 ];
 
+const BROADCAST_TEXT: &str = "<@parameter><@valueName>layer:AEA:2.0:broadcastText</@valueName>\
+    <@value>B</@value></@parameter>";
+
 /// What a skipped element may hold.
-const INSIDE: [&str; 13] = [
+const INSIDE: [&str; 14] = [
     "x",
     " \r\n\t",
     "&amp;",
@@ -64,10 +67,11 @@ const INSIDE: [&str; 13] = [
     "<@references/><@references/>",
     "<@eventCode><@valueName>SAME</@valueName><@value>CEM</@value></@eventCode>",
     "<@info><@expires/><@expires/></@info>",
+    BROADCAST_TEXT,
 ];
 
 /// What a later info may hold beside its language.
-const IN_LATER: [&str; 11] = [
+const IN_LATER: [&str; 12] = [
     "",
     "text",
     "<!--<language>en-US</language>-->",
@@ -78,6 +82,7 @@ const IN_LATER: [&str; 11] = [
     "<@expires><a/></@expires>",
     "<@info><@language>en-US</@language></@info>",
     "<@parameter><@valueName>EAS-ORG</@valueName><@value>PEP</@value></@parameter>",
+    BROADCAST_TEXT,
     "<@area><@geocode><@valueName>SAME</@valueName><@value>1</@value></@geocode></@area>",
 ];
 
