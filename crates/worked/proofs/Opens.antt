@@ -49,6 +49,8 @@ use Rattle.sentence.specs.Words.{locationWord, orgWords, others, sentenceOf, wh
 use Rattle.sentence.specs.Words as sentence-words
 use Rattle.wording.specs.Text.{afterSpace, cut, lastParts, phrase, roomOf, sharesOf, textOf}
 use Rattle.outputs.specs.WorkingOutputs.{roomyText, uriIn}
+use Rattle.canadian.specs.Canadian.{canadianText}
+use Rattle.canadian.specs.WorkingCanadian.{canadianBy, canadianGiven, canadianOf, worded}
 use Rattle.convert.specs.WorkingConvert.{alertGiven, convertOf, outcomeOf, roomy, textIn}
 use Rattle.report.specs.Lines.{alertLines, audioLine, audioWords, carryLine, decimal, line, linesOf, numberLine, orNone, valueLine}
 use Rattle.report.specs.Lines as report-lines
@@ -124,6 +126,10 @@ outputs-opens : Unit {0}
 unfolding roomyText uriIn
 outputs-opens = tt
 
+canadian-opens : Unit {0}
+unfolding canadianBy canadianGiven canadianOf canadianText worded
+canadian-opens = tt
+
 convert-opens : Unit {0}
 unfolding alertGiven convertOf outcomeOf roomy textIn
 convert-opens = tt
@@ -133,5 +139,5 @@ unfolding alertLines audioLine audioWords carryLine decimal line linesOf numberL
 report-opens = tt
 
 unfoldable pub converting : Unit {0}
-unfolding octets-opens clock-opens parts-opens header-opens pieces-opens tags-opens markup-opens values-opens reads-opens gather-opens fields-opens message-opens judgement-opens sentence-opens wording-opens outputs-opens convert-opens report-opens
+unfolding octets-opens clock-opens parts-opens header-opens pieces-opens tags-opens markup-opens values-opens reads-opens gather-opens fields-opens message-opens judgement-opens sentence-opens wording-opens outputs-opens canadian-opens convert-opens report-opens
 converting = tt

@@ -1,4 +1,4 @@
--- Whole messages and what the program prints for each, as a single table under a single statement: `All table`. A message is the sample of document 01 but for
+-- Whole messages and what the program prints for each, as a single table under a single statement: `AllWorked table`. A message is the sample of document 01 but for
 -- the pieces that its row names.
 use Prim.Native.Nat.{ℕ, zero, suc}
 use Prim.Native.String.{String}
@@ -361,6 +361,8 @@ headerLines =
     "ZCZC-WXR-CEM-024031+0045-0951800-BENCH/01-"
     "National Weather Service issued Civil Emergency Message for locations 024031, valid from 18:00 UTC on day 095 for 00 hours 45 minutes."
     ∷ takenLine (brief (inPlace "parameter" (parameterElement "EAS-ORG" "CIV" ++ parameterElement "EAS-ORG" "XXX") ∷ []))
+    -- a name in other letters is another name
+    ∷ takenLine (brief (inPlace "parameter" (parameterElement "eas-org" "XXX") ∷ []))
     -- 12: originator
     ∷ refusedLine (brief (inPlace "parameter" (parameterElement "EAS-ORG" "XXX" ++ parameterElement "EAS-ORG" "CIV") ∷ [])) "number 12 field 0"
     ∷ refusedLine (brief (inPlace "parameter" (parameterElement "EAS-ORG" "") ∷ [])) "number 12 field 0"
@@ -418,6 +420,7 @@ outputs =
     told (alertWith (inPlace "parameter" (parameterElement "EASText" "Told." ++ parameterElement "EASText" "Again.") ∷ [])) " Told."
     ∷ told (alertWith (inPlace "parameter" (parameterElement "EASText" "" ++ parameterElement "EASText" "Again.") ∷ []))
     " Message from County Bench. Water main broken. Boil water."
+    ∷ told (brief (inPlace "parameter" (parameterElement "EASTEXT" "Told.") ∷ [])) ""
     -- otherwise the non-empty ones
     ∷ told (alertWith (leafInPlace "senderName" "" ∷ no "instruction" ∷ [])) " Water main broken."
     ∷ told (brief []) ""
@@ -434,6 +437,7 @@ outputs =
     ∷ carryLines (brief (inPlace "parameter" (parameterElement "EAS-Must-Carry" "True" ++ parameterElement "EAS-Must-Carry" "False") ∷ [])) "carry yes"
     ∷ carryLines (brief (inPlace "parameter" (parameterElement "EAS-Must-Carry" "False" ++ parameterElement "EAS-Must-Carry" "True") ∷ [])) "carry no"
     ∷ carryLines (brief (inPlace "parameter" (parameterElement "EAS-Must-Carry" "TRUE") ∷ [])) "carry no"
+    ∷ carryLines (brief (inPlace "parameter" (parameterElement "EAS-MUST-CARRY" "True") ∷ [])) "carry no"
     -- a Cancel with no info
     ∷ quiet (cancel (no "info" ∷ []))
     -- no SAME eventCode
