@@ -10,13 +10,13 @@ use native.Mathlib.Omega.{arith}
 use borrow.Author.Tests.{eqb-true, eqb-false}
 use lib.Dec.{eqb}
 use Rattle.octets.proofs.Tests.{either-way}
-use Rattle.message.specs.WorkingMessage.{messageSays}
+use Rattle.message.specs.WorkingMessage.{messageSays, infoIn}
 use Rattle.leaves.proofs.Fits.{audio-number, audio-fits, number-small, field-small, field-zero}
 use Rattle.outputs.specs.Outputs.{TextOutcome, textAnswerOf}
 use Rattle.outputs.specs.WorkingOutputs.{roomyText, textRefused}
 use Rattle.outputs.specs.declared.TextAudio.{TextAudio}
 use Rattle.outputs.proofs.Fits.{uri-fits}
-use Rattle.canadian.specs.WorkingCanadian.{wordless, infoSays, broadcastIn, descriptionIn, canadianGiven, worded, canadianBy, canadianOf}
+use Rattle.canadian.specs.WorkingCanadian.{lacksWords, broadcastIn, descriptionIn, canadianGiven, wordsGiven, canadianBy, canadianOf}
 use Rattle.canadian.proofs.Texts.{text-short}
 
 pub record Small (r : TextAudio) : Type 0 where
@@ -36,12 +36,12 @@ module _ (s : List ℕ) (t u : ℕ) where
       ((messageSays s .number ≡ 0 → ⊥) → P (textRefused (messageSays s .number) (messageSays s .field))) →
       (messageSays s .number ≡ 0 → P (textRefused 18 (messageSays s .field))) →
       (messageSays s .number ≡ 0 → P (record { number = 0; field = messageSays s .field; given = canadianGiven s (messageSays s) })) → P (canadianOf s t u)
-  unfolding canadianOf canadianBy worded
+  unfolding canadianOf canadianBy wordsGiven
   outcome-holds P two refuse none give =
       let m = messageSays s in
       either-way P (roomyText t u) _ _
       (λ _. either-way P (eqb (m .number) 0) _ _
-      (λ z. either-way P (wordless (broadcastIn s m) (descriptionIn s m)) _ _ (λ _. none (eqb-true (m .number) 0 z)) (λ _. give (eqb-true (m .number) 0 z)))
+      (λ z. either-way P (lacksWords (broadcastIn s m) (descriptionIn s m)) _ _ (λ _. none (eqb-true (m .number) 0 z)) (λ _. give (eqb-true (m .number) 0 z)))
       (λ z. refuse (eqb-false (m .number) 0 z)))
       (λ _. two)
 
@@ -51,7 +51,7 @@ module _ (s : List ℕ) (t u : ℕ) where
     number = omega arith;
     field = field-small s;
     audio = audio-number s;
-    uri = uri-fits s (infoSays (messageSays s) .audio) (audio-fits s);
+    uri = uri-fits s (infoIn (messageSays s) .audio) (audio-fits s);
     text = text-short _ _ _;
   }
 

@@ -11,14 +11,14 @@ use lib.Seq.{sets}
 use lib.Dec.{eqb}
 use Rattle.octets.specs.Bytes.{pick}
 use Rattle.octets.proofs.Tests.{either-way}
-use Rattle.message.specs.WorkingMessage.{messageSays}
+use Rattle.message.specs.WorkingMessage.{messageSays, infoIn}
 use Rattle.message.specs.declared.Message.{Message}
 use Rattle.leaves.proofs.Fits.{audio-fits}
 use Rattle.outputs.specs.Outputs.{TextOutcome, textAnswerOf}
 use Rattle.outputs.specs.WorkingOutputs.{roomyText, uriIn, textRefused}
 use Rattle.outputs.specs.declared.TextAudio.{TextAudio}
 use Rattle.outputs.proofs.Fits.{uri-fits}
-use Rattle.canadian.specs.WorkingCanadian.{textGiven, infoSays, broadcastIn, descriptionIn, instructionIn, canadianGiven, worded, canadianBy, canadianOf}
+use Rattle.canadian.specs.WorkingCanadian.{textGiven, broadcastIn, descriptionIn, instructionIn, canadianGiven, wordsGiven, canadianBy, canadianOf}
 use Rattle.canadian.proofs.Texts.{Puts, long-some, long-none}
 
 -- an answer and both outputs at exit, as the outcome has them
@@ -43,28 +43,28 @@ module _ (s : List ℕ) (t u : ℕ) where
     unfolding canadianBy
     refused e = outcome ∙ rw (ne-eqb (m .number) 0 e)
 
-    pub told : m .number ≡ 0 → canadianOf s t u ≡ worded s m
+    pub told : m .number ≡ 0 → canadianOf s t u ≡ wordsGiven s m
     unfolding canadianBy
     told e = outcome ∙ rw (eq-eqb (m .number) 0 e)
 
     -- the uri that it gives fits
-    pub fits : length (uriIn s (infoSays m .audio)) ≤ 1024
-    fits = rw says (uri-fits s (infoSays (messageSays s) .audio) (audio-fits s))
+    pub fits : length (uriIn s (infoIn m .audio)) ≤ 1024
+    fits = rw says (uri-fits s (infoIn (messageSays s) .audio) (audio-fits s))
 
 -- ---- what is written
 
 module _ (s : List ℕ) (m : Message) (text : List ℕ) {x : List ℕ} {n : ℕ}
     (put : Puts text (textGiven (broadcastIn s m) (descriptionIn s m) (instructionIn s m)) x n) where
   -- the text is empty, and 18 is answered
-  pub no-words : {r : TextAudio} {uri : List ℕ} → n ≡ 0 → r ≡ textAnswerOf (textRefused 18 (m .field)) → Answers (worded s m) r text uri x uri
-  unfolding worded textGiven
+  pub no-words : {r : TextAudio} {uri : List ℕ} → n ≡ 0 → r ≡ textAnswerOf (textRefused 18 (m .field)) → Answers (wordsGiven s m) r text uri x uri
+  unfolding wordsGiven textGiven
   no-words h answer =
       let e = long-none (broadcastIn s m) (descriptionIn s m) (instructionIn s m) (sym (put .0) ∙ h) in
       rw e (answer, (rw e at (put .1), refl))
 
-  pub some-words : (uri : List ℕ) {y : List ℕ} {k : ℕ} → (n ≡ 0 → ⊥) → (k ≡ length (uriIn s (infoSays m .audio))) × (y ≡ sets uri 0 (uriIn s (infoSays m .audio)))
-      → Answers (worded s m) (record { number = 0; field = m .field; audio = infoSays m .audio .number; uri = k; text = n }) text uri x y
-  unfolding worded textGiven canadianGiven textAnswerOf
+  pub some-words : (uri : List ℕ) {y : List ℕ} {k : ℕ} → (n ≡ 0 → ⊥) → (k ≡ length (uriIn s (infoIn m .audio))) × (y ≡ sets uri 0 (uriIn s (infoIn m .audio)))
+      → Answers (wordsGiven s m) (record { number = 0; field = m .field; audio = infoIn m .audio .number; uri = k; text = n }) text uri x y
+  unfolding wordsGiven textGiven canadianGiven textAnswerOf
   some-words uri h linked =
       let e = long-some (broadcastIn s m) (descriptionIn s m) (instructionIn s m) (λ z. h (put .0 ∙ z)) in
       rw e (rw (linked .0, rw e at (put .0)), (rw e at (put .1), linked .1))

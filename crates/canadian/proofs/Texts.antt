@@ -17,7 +17,7 @@ use Rattle.wording.specs.Text.{most, plain, empty, afterSpace}
 use Rattle.wording.proofs.Cuts.{plain-short, plain-next, none-long, some-long}
 use Rattle.wording.proofs.Texts.{put-start}
 use Rattle.canadian.specs.Canadian.{canadianText}
-use Rattle.canadian.specs.WorkingCanadian.{wordless, textGiven}
+use Rattle.canadian.specs.WorkingCanadian.{lacksWords, textGiven}
 
 -- ---- a value by what was put of it
 
@@ -75,19 +75,19 @@ module _ (b d i : List ℕ) where
 
   -- ---- whether there is one
 
-  pub long-some : (length (textGiven b d i) ≡ 0 → ⊥) → wordless b d ≡ false
+  pub long-some : (length (textGiven b d i) ≡ 0 → ⊥) → lacksWords b d ≡ false
   unfolding textGiven
-  long-some h = go (wordless b d) refl
+  long-some h = go (lacksWords b d) refl
     where
-      go : (c : Bool) → wordless b d ≡ c → wordless b d ≡ false
+      go : (c : Bool) → lacksWords b d ≡ c → lacksWords b d ≡ false
       go true e = absurd (h (rw e))
       go false e = e
 
-  pub long-none : length (textGiven b d i) ≡ 0 → wordless b d ≡ true
+  pub long-none : length (textGiven b d i) ≡ 0 → lacksWords b d ≡ true
   unfolding textGiven canadianText
   long-none h = go (empty b) refl (empty d) refl
     where
-      go : (p : Bool) → empty b ≡ p → (q : Bool) → empty d ≡ q → wordless b d ≡ true
+      go : (p : Bool) → empty b ≡ p → (q : Bool) → empty d ≡ q → lacksWords b d ≡ true
       go false e q f = absurd (omega (arith, ap length (sym (whole e)) ∙ h, some-long b e, length-take most b))
       go true e true f = rw (e, f)
       go true e false f =

@@ -6,53 +6,50 @@ use lib.Dec.{eqb}
 use Rattle.octets.specs.Bytes.{pick}
 use Rattle.values.specs.Value.{valueAt}
 use Rattle.reads.specs.WorkingLeaves.{descriptionLeaf, instructionLeaf, broadcastLeaf}
-use Rattle.reads.specs.declared.Info.{Info}
-use Rattle.message.specs.WorkingMessage.{messageSays}
+use Rattle.message.specs.WorkingMessage.{messageSays, infoIn}
 use Rattle.message.specs.declared.Message.{Message}
 use Rattle.wording.specs.Text.{empty}
-use Rattle.outputs.specs.Outputs.{TextGiven, noText, TextOutcome}
+use Rattle.outputs.specs.Outputs.{TextGiven, TextOutcome}
 use Rattle.outputs.specs.WorkingOutputs.{roomyText, uriIn, textRefused}
 use Rattle.canadian.specs.Canadian.{canadianText}
 
 -- neither a broadcast text nor a description
-abbrev pub wordless : List ℕ → List ℕ → Bool
-wordless broadcast description = empty broadcast && empty description
+abbrev pub lacksWords : List ℕ → List ℕ → Bool
+lacksWords broadcast description = empty broadcast && empty description
 
 -- the text; nothing where there is neither
 unfoldable pub textGiven : List ℕ → List ℕ → List ℕ → List ℕ
-textGiven broadcast description instruction = pick (wordless broadcast description) [] (canadianText broadcast description instruction)
+textGiven broadcast description instruction = pick (lacksWords broadcast description) [] (canadianText broadcast description instruction)
 
 -- what the selected info says
-abbrev pub infoSays : Message → Info
-infoSays m = m .alert .info
-
 abbrev pub broadcastIn : List ℕ → Message → List ℕ
-broadcastIn s m = valueAt s (broadcastLeaf (infoSays m) .at)
+broadcastIn s m = valueAt s (broadcastLeaf (infoIn m) .at)
 
 abbrev pub descriptionIn : List ℕ → Message → List ℕ
-descriptionIn s m = valueAt s (descriptionLeaf (infoSays m) .at)
+descriptionIn s m = valueAt s (descriptionLeaf (infoIn m) .at)
 
 abbrev pub instructionIn : List ℕ → Message → List ℕ
-instructionIn s m = valueAt s (instructionLeaf (infoSays m) .at)
+instructionIn s m = valueAt s (instructionLeaf (infoIn m) .at)
 
 -- text and audio of a message that is refused by none
 unfoldable pub canadianGiven : List ℕ → Message → TextGiven
 canadianGiven s m = record {
   text = canadianText (broadcastIn s m) (descriptionIn s m) (instructionIn s m);
-  audio = infoSays m .audio .number;
-  uri = uriIn s (infoSays m .audio);
+  audio = infoIn m .audio .number;
+  uri = uriIn s (infoIn m .audio);
 }
 
 -- 18, neither such a value nor a non-empty description
-unfoldable pub worded : List ℕ → Message → TextOutcome
-worded s m =
-    pick (wordless (broadcastIn s m) (descriptionIn s m))
+unfoldable pub wordsGiven : List ℕ → Message → TextOutcome
+wordsGiven s m =
+    pick (lacksWords (broadcastIn s m) (descriptionIn s m))
     (textRefused 18 (m .field))
     (record { number = 0; field = m .field; given = canadianGiven s m })
 
--- 2 an output short, then 4 to 9, then 18
+-- 4 to 9, and 18 after them
 unfoldable pub canadianBy : List ℕ → Message → TextOutcome
-canadianBy s m = pick (eqb (m .number) 0) (worded s m) (textRefused (m .number) (m .field))
+canadianBy s m = pick (eqb (m .number) 0) (wordsGiven s m) (textRefused (m .number) (m .field))
 
+-- 2 an output short, before all of these
 unfoldable pub canadianOf : List ℕ → ℕ → ℕ → TextOutcome
 canadianOf s text uri = pick (roomyText text uri) (canadianBy s (messageSays s)) (textRefused 2 0)

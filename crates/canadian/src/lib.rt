@@ -6,9 +6,10 @@ ghost use Prim.Native.Nat.{_≤_};
 ghost use lib.ListN.{length};
 ghost use lib.Seq.{sets};
 ghost use Rattle.values.specs.Value.{valueAt};
+ghost use Rattle.message.specs.WorkingMessage.{infoIn};
 ghost use Rattle.outputs.specs.Outputs.{textAnswerOf};
 ghost use Rattle.outputs.specs.WorkingOutputs.{uriIn};
-ghost use Rattle.canadian.specs.WorkingCanadian.{textGiven, infoSays, worded, canadianOf};
+ghost use Rattle.canadian.specs.WorkingCanadian.{textGiven, wordsGiven, canadianOf};
 
 // The characters that a text may have.
 const MOST: usize = 1800;
@@ -40,10 +41,10 @@ fn put_text(
 fn write(s: &[u8], m: Message, text: &mut [u8], uri: &mut [u8]) -> TextAudio
     requires { ⌜ 1800 ≤ length (now text) ⌝ }
     requires { ⌜ 1024 ≤ length (now uri) ⌝ }
-    requires { ⌜ length (uriIn (now s) (infoSays m .audio)) ≤ 1024 ⌝ }
-    ensures { λ r. ⌜ r ≡ textAnswerOf (worded (now (s .entry)) m) ⌝ }
-    ensures { λ _. ⌜ now (text .exit) ≡ sets (now (text .entry)) 0 (worded (now (s .entry)) m .given .text) ⌝ }
-    ensures { λ _. ⌜ now (uri .exit) ≡ sets (now (uri .entry)) 0 (worded (now (s .entry)) m .given .uri) ⌝ }
+    requires { ⌜ length (uriIn (now s) (infoIn m .audio)) ≤ 1024 ⌝ }
+    ensures { λ r. ⌜ r ≡ textAnswerOf (wordsGiven (now (s .entry)) m) ⌝ }
+    ensures { λ _. ⌜ now (text .exit) ≡ sets (now (text .entry)) 0 (wordsGiven (now (s .entry)) m .given .text) ⌝ }
+    ensures { λ _. ⌜ now (uri .exit) ≡ sets (now (uri .entry)) 0 (wordsGiven (now (s .entry)) m .given .uri) ⌝ }
 {
     let a = m.alert;
     let i = a.info;

@@ -10,9 +10,8 @@ use lib.Seq.{sets}
 use lib.Dec.{leb}
 use Rattle.octets.proofs.Tests.{and-left, and-right}
 use Rattle.parts.specs.Parts.{stationOk}
-use Rattle.message.specs.WorkingMessage.{messageSays}
+use Rattle.message.specs.WorkingMessage.{messageSays, infoIn}
 use Rattle.leaves.proofs.Fits.{audio-fits}
-use Rattle.judgement.specs.WorkingRules.{infoIn}
 use Rattle.judgement.specs.WorkingJudged.{judgedOf}
 use Rattle.judgement.specs.declared.Judged.{Judged}
 use Rattle.judgement.proofs.Bodies.{body-ok, message-kept}

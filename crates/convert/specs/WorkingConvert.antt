@@ -16,7 +16,7 @@ use Rattle.reads.specs.WorkingSteps.{says}
 use Rattle.reads.specs.declared.Info.{Info}
 use Rattle.sentence.specs.Words.{sentenceOf}
 use Rattle.wording.specs.Text.{textOf}
-use Rattle.judgement.specs.WorkingRules.{infoIn}
+use Rattle.message.specs.WorkingMessage.{infoIn}
 use Rattle.judgement.specs.WorkingJudged.{judgedOf}
 use Rattle.judgement.specs.declared.Judged.{Judged}
 use Rattle.outputs.specs.WorkingOutputs.{roomyText, uriIn}

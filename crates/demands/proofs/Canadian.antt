@@ -19,7 +19,7 @@ use Rattle.message.specs.declared.Message.{Message}
 use Rattle.wording.specs.Text.{empty}
 use Rattle.outputs.specs.Outputs.{noText, TextOutcome, textAnswerOf}
 use Rattle.outputs.specs.WorkingOutputs.{roomyText, uriIn}
-use Rattle.canadian.specs.WorkingCanadian.{wordless, broadcastIn, descriptionIn, canadianGiven, worded, canadianBy, canadianOf}
+use Rattle.canadian.specs.WorkingCanadian.{lacksWords, broadcastIn, descriptionIn, canadianGiven, wordsGiven, canadianBy, canadianOf}
 use Rattle.canadian.proofs.Answers.{outcome-holds, canadian-small, canadian-gives}
 use Rattle.canadian.proofs.Answers as canadian
 use Rattle.demands.specs.Calls.{library}
@@ -51,7 +51,7 @@ abbrev hasNoText : List ℕ → Bool
 hasNoText s = isNone (parameterValues broadcastText s) && is "" (description s)
 
 module _ (s : List ℕ) (k : Faultless s) where
-  wordless-said : wordless (broadcastIn s (said s)) (descriptionIn s (said s)) ≡ hasNoText s
+  wordless-said : lacksWords (broadcastIn s (said s)) (descriptionIn s (said s)) ≡ hasNoText s
   unfolding judged bytes
   wordless-said = let t = told s k in rw (t .parameters .each 3 (omega arith) .value, t .description, first-none _)
 
@@ -59,21 +59,21 @@ module _ (s : List ℕ) (k : Faultless s) where
 
 module _ (s : List ℕ) (t u : ℕ) where
   by-number : canadianBy s (messageSays s) .number ≡ lowestIn (messageRows s ++ (row 18 (hasNoText s) ∷ []))
-  unfolding canadianBy worded every lowestIn
+  unfolding canadianBy wordsGiven every lowestIn
   by-number =
       let f : TextOutcome → ℕ = λ (o : TextOutcome). o .number in
       at-pick f (eqb (m .number) 0) _ _
-      ∙ ap (λ (n : ℕ). pick (eqb (m .number) 0) n (m .number)) (at-pick f (wordless (broadcastIn s m) (descriptionIn s m)) _ _)
+      ∙ ap (λ (n : ℕ). pick (eqb (m .number) 0) n (m .number)) (at-pick f (lacksWords (broadcastIn s m) (descriptionIn s m)) _ _)
       ∙ go (eqb (m .number) 0) refl ∙ ap (λ (n : ℕ). pick (eqb n 0) (pick (hasNoText s) 18 0) n) (message-number s)
       ∙ sym (lowest-append (messageRows s) (row 18 (hasNoText s) ∷ []) refl)
     where
       m : Message
       m = messageSays s
 
-      go : (b : Bool) → eqb (m .number) 0 ≡ b → pick b (pick (wordless (broadcastIn s m) (descriptionIn s m)) 18 0) (m .number) ≡ pick b (pick (hasNoText s) 18 0) (m .number)
+      go : (b : Bool) → eqb (m .number) 0 ≡ b → pick b (pick (lacksWords (broadcastIn s m) (descriptionIn s m)) 18 0) (m .number) ≡ pick b (pick (hasNoText s) 18 0) (m .number)
       go true e =
           let z = eqb-true (m .number) 0 e in
-          ap (λ (b : Bool). pick b 18 0) (ap (λ (x : Message). wordless (broadcastIn s x) (descriptionIn s x)) (message-said s z) ∙ wordless-said s (message-faultless s z))
+          ap (λ (b : Bool). pick b 18 0) (ap (λ (x : Message). lacksWords (broadcastIn s x) (descriptionIn s x)) (message-said s z) ∙ wordless-said s (message-faultless s z))
       go false e = refl
 
   number-is : canadianOf s t u .number ≡ lowestIn (canadianRows s t u)

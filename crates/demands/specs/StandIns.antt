@@ -83,8 +83,8 @@ converting conversion = record {
 }
 
 -- but for its Canadian mode
-abbrev pub canadianBy : ((s : List ℕ) (text uri : ℕ) → TextOutcome) → Calls
-canadianBy canadian = record {
+abbrev pub inCanadaBy : ((s : List ℕ) (text uri : ℕ) → TextOutcome) → Calls
+inCanadaBy canadian = record {
   conversion = library .conversion;
   canadian = canadian;
   offering = library .offering;
@@ -124,7 +124,7 @@ alwaysRefuses number = converting (λ s station h t u. refusedWith number)
 
 -- the same of the Canadian mode
 abbrev pub refusesInCanada : ℕ → Calls
-refusesInCanada number = canadianBy (λ s t u. textRefused number 0)
+refusesInCanada number = inCanadaBy (λ s t u. textRefused number 0)
 
 -- every message has its own number, and one that gives a header gives the same as any other, chosen by the station
 abbrev pub oneHeader : (List ℕ → Given) → Calls

@@ -16,7 +16,7 @@ use Rattle.octets.specs.Bytes.{pick}
 use Rattle.values.specs.Value.{valueAt}
 use Rattle.reads.specs.Parameters.{readParameters, parameterCount}
 use Rattle.reads.specs.WorkingLeaves.{noLeaf, found, pairOk, noInfo, soundOf, languageLeaf}
-use Rattle.reads.specs.WorkingSteps.{eventStep, parameterStep, rowOf, locationStep, audioStep, english, languageFault, isNothing, infoStep, laterStep}
+use Rattle.reads.specs.WorkingSteps.{eventStep, parameterStep, parameterRow, locationStep, audioStep, english, languageFault, isNothing, infoStep, laterStep}
 use Rattle.reads.specs.declared.Leaf.{Leaf}
 use Rattle.reads.specs.declared.Events.{Events}
 use Rattle.reads.specs.declared.Audio.{Audio}
@@ -105,7 +105,7 @@ module _ (s l : List ℕ) (a : ℕ) (name value : Leaf) where
     rw (h, put .1, leaves-as l m parameterCount (a + 1) (a + 1) (but-alike l m a 1 (a + 1) (3 * parameterCount) (put .0) (inr (omega arith)))),
   )
 
-  module _ (paired : pairOk name value ≡ true) (k : ℕ) (is : k ≡ rowOf readParameters (valueAt s (name .at)) (valueAt s (value .at))) where
+  module _ (paired : pairOk name value ≡ true) (k : ℕ) (is : k ≡ parameterRow readParameters (valueAt s (name .at)) (valueAt s (value .at))) where
     pub parameter-other : parameterCount ≤ k → PutParameters l l a (parameterStep s (lentParameters l a) name value)
     unfolding parameterStep
     parameter-other h = (but-nothing l a parameterNumbers, rw (paired, no-row-of-it s name value readParameters _ (all-leaves l (a + 1)) (omega (arith, h, is))))

@@ -11,7 +11,8 @@ use Rattle.parts.specs.declared.Origin.the-variants.{Known, Unknown}
 use Rattle.reads.specs.WorkingLeaves.{easOrgLeaf}
 use Rattle.reads.specs.declared.Leaf.{Leaf}
 use Rattle.message.specs.declared.Message.{Message}
-use Rattle.judgement.specs.WorkingRules.{infoIn, eventIs, noEvent, eventOf, originOf, located}
+use Rattle.message.specs.WorkingMessage.{infoIn}
+use Rattle.judgement.specs.WorkingRules.{eventIs, noEvent, eventOf, originOf, located}
 use Rattle.judgement.specs.WorkingJudged.{without, bodyWith, lasting, alerted}
 use Rattle.judgement.specs.declared.Event.{Event}
 use Rattle.judgement.specs.declared.Judged.{Judged}

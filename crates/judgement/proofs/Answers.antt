@@ -14,10 +14,10 @@ use lib.Dec.{eqb}
 use Rattle.octets.proofs.Tests.{either-way}
 use Rattle.parts.specs.Originator.{isKnown}
 use Rattle.reads.specs.WorkingLeaves.{easOrgLeaf}
-use Rattle.message.specs.WorkingMessage.{messageSays}
+use Rattle.message.specs.WorkingMessage.{messageSays, infoIn}
 use Rattle.message.specs.declared.Message.{Message}
 use Rattle.leaves.proofs.Fits as fits
-use Rattle.judgement.specs.WorkingRules.{lacksReferences, infoIn, eventIs, originOf, located, quietOf}
+use Rattle.judgement.specs.WorkingRules.{lacksReferences, eventIs, originOf, located, quietOf}
 use Rattle.judgement.specs.WorkingJudged.{without, lasting, bodyIn, alerted, judgedBy, judgedOf}
 use Rattle.judgement.specs.declared.Judged.{Judged}
 

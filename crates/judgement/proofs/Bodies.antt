@@ -23,10 +23,10 @@ use Rattle.parts.proofs.Has.{ok-of, event-long, event-capitals}
 use Rattle.parts.proofs.Periods.{period-quarter, period-half}
 use Rattle.reads.specs.WorkingLeaves.{easOrgLeaf}
 use Rattle.reads.specs.declared.Locations.{Locations}
-use Rattle.message.specs.WorkingMessage.{messageSays}
+use Rattle.message.specs.WorkingMessage.{messageSays, infoIn}
 use Rattle.message.specs.declared.Message.{Message}
 use Rattle.leaves.proofs.Fits.{LocationsFit, locations-fit, sent-in}
-use Rattle.judgement.specs.WorkingRules.{lacksReferences, infoIn, eventIs, originOf, located, quietOf}
+use Rattle.judgement.specs.WorkingRules.{lacksReferences, eventIs, originOf, located, quietOf}
 use Rattle.judgement.specs.WorkingJudged.{bodyWith, lasting, bodyIn, alerted, judgedBy, judgedOf}
 use Rattle.judgement.specs.declared.Judged.{Judged}
 use Rattle.judgement.proofs.Answers.{alerted-holds, judged-holds, passed}

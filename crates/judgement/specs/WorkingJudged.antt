@@ -13,9 +13,9 @@ use Rattle.parts.specs.declared.Originator.{Originator}
 use Rattle.parts.specs.declared.Body.{Body}
 use Rattle.reads.specs.WorkingLeaves.{easOrgLeaf}
 use Rattle.reads.specs.declared.Locations.{Locations}
-use Rattle.message.specs.WorkingMessage.{messageSays}
+use Rattle.message.specs.WorkingMessage.{messageSays, infoIn}
 use Rattle.message.specs.declared.Message.{Message}
-use Rattle.judgement.specs.WorkingRules.{lacksReferences, infoIn, expiresIn, eventIs, originOf, located, secondsTo, quietOf}
+use Rattle.judgement.specs.WorkingRules.{lacksReferences, expiresIn, eventIs, originOf, located, secondsTo, quietOf}
 use Rattle.judgement.specs.declared.Judged.{Judged}
 
 -- a message that gives no header: refused, or a quiet Cancel, which answers 0

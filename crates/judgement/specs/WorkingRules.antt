@@ -19,6 +19,7 @@ use Rattle.reads.specs.declared.Locations.{Locations}
 use Rattle.reads.specs.declared.Info.{Info}
 use Rattle.fields.specs.WorkingFields.{referencesOk}
 use Rattle.fields.specs.declared.MsgType.{MsgType}
+use Rattle.message.specs.WorkingMessage.{infoIn}
 use Rattle.message.specs.declared.Message.{Message}
 use Rattle.judgement.specs.declared.Event.{Event}
 
@@ -38,10 +39,6 @@ referenced s l = onlyOf l && referencesOk (valueAt s (l .at))
 -- references missing, malformed or over 16
 unfoldable pub lacksReferences : List ℕ → Message → Bool
 lacksReferences s m = asksReferences (m .«msg_type») && not (referenced s (referencesLeaf (m .alert)))
-
--- the info that is selected
-abbrev pub infoIn : Message → Info
-infoIn m = m .alert .info
 
 abbrev pub expiresIn : Message → Leaf
 expiresIn m = expiresLeaf (infoIn m)

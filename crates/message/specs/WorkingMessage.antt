@@ -9,6 +9,7 @@ use Rattle.markup.specs.Tree.{One, one, none}
 use Rattle.markup.specs.Document.{docAt}
 use Rattle.reads.specs.WorkingLeaves.{nothingRead, sentLeaf}
 use Rattle.reads.specs.declared.Alert.{Alert}
+use Rattle.reads.specs.declared.Info.{Info}
 use Rattle.reads.specs.declared.Context.{Context}
 use Rattle.reads.specs.declared.Context.the-variants.{Root, Skipped}
 use Rattle.gather.specs.WorkingRead.{alertOf}
@@ -48,3 +49,7 @@ ofRoot s (one g kids e) = judgedRoot s (prefixOf s (g .from + 1) (g .name)) (roo
 -- 4 message length: 1 to 32,768 bytes
 unfoldable pub messageSays : List ℕ → Message
 messageSays s = pick (between 1 32768 (length s)) (ofRoot s (docAt s)) (refusedAs (length s) 4)
+
+-- the info that is selected
+abbrev pub infoIn : Message → Info
+infoIn m = m .alert .info

@@ -19,7 +19,7 @@ use Rattle.words.specs.WorkingWords.{whichOf}
 use Rattle.reads.specs.declared.Leaf.{Leaf}
 use Rattle.reads.specs.WorkingLeaves.{noLeaf, found}
 use Rattle.reads.specs.Parameters.{ReadParameter, exactly, easText, easMustCarry, broadcastText, readParameters, isOf}
-use Rattle.reads.specs.WorkingSteps.{rowStep, rowsStep, rowOf}
+use Rattle.reads.specs.WorkingSteps.{rowStep, rowsStep, parameterRow}
 
 module _ (s : List ℕ) (name value : Leaf) where
   pub rows-long : (rows : List ReadParameter) (ls : List Leaf) → length ls ≡ length rows → length (rowsStep s name value rows ls) ≡ length rows
@@ -41,18 +41,18 @@ module _ (s : List ℕ) (name value : Leaf) where
 -- a parameter that is of one row is of none behind it
 abbrev pub Apart : List ReadParameter → List ℕ → List ℕ → Type 0
 Apart [] w v = Unit {0}
-Apart (r ∷ rs) w v = (isOf r w v ≡ true → length rs ≤ rowOf rs w v) × Apart rs w v
+Apart (r ∷ rs) w v = (isOf r w v ≡ true → length rs ≤ parameterRow rs w v) × Apart rs w v
 
 module _ (s : List ℕ) (name value : Leaf) where
   -- the row of this parameter
   abbrev row : List ReadParameter → ℕ
-  row rows = rowOf rows (valueAt s (name .at)) (valueAt s (value .at))
+  row rows = parameterRow rows (valueAt s (name .at)) (valueAt s (value .at))
 
   abbrev steps : List ReadParameter → List Leaf → List Leaf
   steps rows ls = rowsStep s name value rows ls
 
   pub no-row-of-it : (rows : List ReadParameter) (ls : List Leaf) → length ls ≡ length rows → length rows ≤ row rows → steps rows ls ≡ ls
-  unfolding rowsStep rowOf
+  unfolding rowsStep parameterRow
   no-row-of-it [] [] h none = refl
   no-row-of-it [] (l ∷ ls) h none = absurd (omega (arith, h))
   no-row-of-it (r ∷ rs) [] h none = absurd (omega (arith, h))
@@ -64,7 +64,7 @@ module _ (s : List ℕ) (name value : Leaf) where
 
   pub own-row : (rows : List ReadParameter) (ls : List Leaf) → length ls ≡ length rows → Apart rows (valueAt s (name .at)) (valueAt s (value .at)) → row rows < length rows
       → steps rows ls ≡ set ls (row rows) (found (getD ls (row rows) (noLeaf 0)) (value .at))
-  unfolding rowsStep rowOf
+  unfolding rowsStep parameterRow
   own-row [] ls h a x = absurd (omega (arith, x))
   own-row (r ∷ rs) [] h a x = absurd (omega (arith, h))
   own-row (r ∷ rs) (l ∷ ls) h a x = go (isOf r (valueAt s (name .at)) (valueAt s (value .at))) x (λ e. no-row-of-it rs ls (omega (arith, h)) (a .0 e)) (own-row rs ls (omega (arith, h)) (a .1))
@@ -83,10 +83,10 @@ module _ (w v : List ℕ) where
   placeIn ws = whichOf (map bytes ws) w
 
   abbrev rowIn : List String → List ReadParameter → ℕ
-  rowIn ws rest = rowOf (map exactly ws ++ rest) w v
+  rowIn ws rest = parameterRow (map exactly ws ++ rest) w v
 
   pub exact-row : (ws : List String) (rest : List ReadParameter) → placeIn ws < length ws → placeIn ws ≡ rowIn ws rest
-  unfolding rowOf whichOf
+  unfolding parameterRow whichOf
   exact-row [] rest h = absurd (omega (arith, h))
   exact-row (x ∷ ws) rest h = go (same w (bytes x)) h (exact-row ws rest)
     where
@@ -94,13 +94,13 @@ module _ (w v : List ℕ) where
       go true n rest = refl
       go false n rest = ap suc (rest (omega (arith, n)))
 
-  pub behind-exact : (ws : List String) (rest : List ReadParameter) → length ws ≤ placeIn ws → length ws + rowOf rest w v ≡ rowIn ws rest
-  unfolding rowOf whichOf
+  pub behind-exact : (ws : List String) (rest : List ReadParameter) → length ws ≤ placeIn ws → length ws + parameterRow rest w v ≡ rowIn ws rest
+  unfolding parameterRow whichOf
   behind-exact [] rest h = omega arith
   behind-exact (x ∷ ws) rest h = go (same w (bytes x)) h (behind-exact ws rest)
     where
-      go : (b : Bool) → suc (length ws) ≤ pick b 0 (suc (placeIn ws)) → (length ws ≤ placeIn ws → length ws + rowOf rest w v ≡ rowIn ws rest)
-          → suc (length ws) + rowOf rest w v ≡ pick b 0 (suc (rowIn ws rest))
+      go : (b : Bool) → suc (length ws) ≤ pick b 0 (suc (placeIn ws)) → (length ws ≤ placeIn ws → length ws + parameterRow rest w v ≡ rowIn ws rest)
+          → suc (length ws) + parameterRow rest w v ≡ pick b 0 (suc (rowIn ws rest))
       go true n more = absurd (omega (arith, n))
       go false n more = let e = more (omega (arith, n)) in omega (arith, e)
 
@@ -108,16 +108,16 @@ module _ (w v : List ℕ) where
 
 -- the one of any letter case, by its tests
 pub broadcast-row : (w v : List ℕ) (b c : Bool) → same (map small w) (bytes "layer:aea:2.0:broadcasttext") ≡ b → same v [] ≡ c
-    → rowOf (broadcastText ∷ []) w v ≡ pick (b && not c) 0 1
-unfolding rowOf bytes small isCapital between every
+    → parameterRow (broadcastText ∷ []) w v ≡ pick (b && not c) 0 1
+unfolding parameterRow bytes small isCapital between every
 broadcast-row w v b c p q = rw (p, q)
 
 -- one of exactly this name is of no row that has another
-others : (x : List ℕ) (rows : List ReadParameter) (w v : List ℕ) → length rows ≤ rowOf rows x v → same w x ≡ true → length rows ≤ rowOf rows w v
+others : (x : List ℕ) (rows : List ReadParameter) (w v : List ℕ) → length rows ≤ parameterRow rows x v → same w x ≡ true → length rows ≤ parameterRow rows w v
 others x rows w v h e = rw (same-is w x e) h
 
 pub apart : (w v : List ℕ) → Apart readParameters w v
-unfolding rowOf bytes same small isCapital between every
+unfolding parameterRow bytes same small isCapital between every
 apart w v = (
   others (bytes "EAS-ORG") (easText ∷ easMustCarry ∷ broadcastText ∷ []) w v (omega arith),
   (

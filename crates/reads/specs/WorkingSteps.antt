@@ -50,9 +50,9 @@ parameterStep s e name value =
     (record { leaf = e .leaf; fault = true })
 
 -- the place of the first row that a parameter of the name w and the value v is one of, counted from 0; how many rows there are where it is of none
-unfoldable pub rowOf : List ReadParameter → List ℕ → List ℕ → ℕ
-rowOf [] w v = 0
-rowOf (r ∷ rs) w v = pick (isOf r w v) 0 (suc (rowOf rs w v))
+unfoldable pub parameterRow : List ReadParameter → List ℕ → List ℕ → ℕ
+parameterRow [] w v = 0
+parameterRow (r ∷ rs) w v = pick (isOf r w v) 0 (suc (parameterRow rs w v))
 
 -- the first 31 in message order are placed, repeats kept
 unfoldable pub withLocation : Locations → ℕ → Locations

@@ -7,7 +7,7 @@ ghost use Rattle.reads.specs.WorkingLeaves.{noLeaf, marked, found, sound
 ghost use Rattle.values.specs.Value.{valueAt};
 ghost use Rattle.reads.specs.Parameters.{readParameters};
 ghost use Rattle.reads.specs.Names.{localAt, alertContext, infoContext, laterContext, pairContext, resourceContext, areaContext, contextOf};
-ghost use Rattle.reads.specs.WorkingSteps.{eventStep, rowOf, audioOf, audioStep, english, isNothing};
+ghost use Rattle.reads.specs.WorkingSteps.{eventStep, parameterRow, audioOf, audioStep, english, isNothing};
 
 // A leaf: where the value of the first begins, how often it stands (0, 1, and 2 for more), and whether one of them holds an element.
 pub struct Leaf {
@@ -395,7 +395,7 @@ pub fn event_step(s: &[u8], e: Events, name: Leaf, value: Leaf) -> Events
 
 // The place of the parameter in the table of those that are read, by its name and its value; behind the table where it is none of them.
 pub fn parameter_row(s: &[u8], name: usize, value: usize) -> usize
-    ensures { λ r. ⌜ r ≡ rowOf readParameters (valueAt (now (s .entry)) name) (valueAt (now (s .entry)) value) ⌝ }
+    ensures { λ r. ⌜ r ≡ parameterRow readParameters (valueAt (now (s .entry)) name) (valueAt (now (s .entry)) value) ⌝ }
 {
     let k = words::which_value(s, name, b"\x07\x07\x0e", b"EAS-ORGEASTextEAS-Must-Carry");
     if k < BROADCAST_TEXT {

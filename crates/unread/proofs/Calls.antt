@@ -13,7 +13,7 @@ use Rattle.message.specs.declared.Message.{Message}
 use Rattle.judgement.specs.WorkingJudged.{judgedOf}
 use Rattle.judgement.specs.declared.Judged.{Judged}
 use Rattle.outputs.specs.WorkingOutputs.{uriIn}
-use Rattle.canadian.specs.WorkingCanadian.{canadianGiven, worded, canadianBy, canadianOf}
+use Rattle.canadian.specs.WorkingCanadian.{canadianGiven, wordsGiven, canadianBy, canadianOf}
 use Rattle.convert.specs.WorkingConvert.{textIn, alertGiven, outcomeOf, convertOf}
 use Rattle.offers.specs.WorkingRecords.{ownIn, zeroFilledHeader, alertBy, recordsOf}
 use Rattle.offers.specs.Offer.{MessageOffering}
@@ -70,7 +70,7 @@ module _ (s r : List ℕ) where
   -- ---- the Canadian mode
 
   by-as : (m n : Message) → MessageAs s r m n → canadianBy s m ≡ canadianBy r n
-  unfolding canadianBy worded canadianGiven
+  unfolding canadianBy wordsGiven canadianGiven
   by-as m n h =
       let i = h .alert .info in
       rw (

@@ -9,9 +9,9 @@ use lib.Dec.{eqb}
 use Rattle.parts.specs.Originator.{isKnown}
 use Rattle.reads.specs.WorkingLeaves.{easOrgLeaf}
 use Rattle.reads.specs.declared.Leaf.{Leaf}
-use Rattle.message.specs.WorkingMessage.{messageSays}
+use Rattle.message.specs.WorkingMessage.{messageSays, infoIn}
 use Rattle.message.specs.declared.Message.{Message}
-use Rattle.judgement.specs.WorkingRules.{referenced, lacksReferences, infoIn, expiresIn, eventIs, originOf, located, secondsTo, quietOf}
+use Rattle.judgement.specs.WorkingRules.{referenced, lacksReferences, expiresIn, eventIs, originOf, located, secondsTo, quietOf}
 use Rattle.judgement.specs.WorkingJudged.{without, bodyWith, lasting, bodyIn, alerted, judgedBy, judgedOf}
 use Rattle.judgement.specs.declared.Judged.{Judged}
 use Rattle.unread.specs.Kept.{OnlyUnreadDiffers}

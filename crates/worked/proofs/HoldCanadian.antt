@@ -12,7 +12,7 @@ use Rattle.outputs.specs.Outputs.{TextOutcome}
 use Rattle.outputs.specs.WorkingOutputs.{textRefused}
 use Rattle.canadian.specs.WorkingCanadian.{canadianOf}
 use Rattle.worked.specs.Table.{changed, piecesWritten}
-use Rattle.worked.specs.Canadian.{CanadianRow, canadianRowOutcome, CanadianHolds, AllCanadian, broadcasts, descriptions, asked, resources, canadianTable}
+use Rattle.worked.specs.Canadian.{CanadianRow, canadianRowOutcome, CanadianHolds, AllCanadian, broadcasts, descriptions, asked, canadianResources, canadianTable}
 use Rattle.worked.proofs.Opens.{converting}
 
 -- two outcomes agree in each part
@@ -57,8 +57,8 @@ asked-hold : every answers asked ≡ true
 unfolding converting changed piecesWritten asked
 asked-hold = refl
 
-resources-hold : every answers resources ≡ true
-unfolding converting changed piecesWritten resources
+resources-hold : every answers canadianResources ≡ true
+unfolding converting changed piecesWritten canadianResources
 resources-hold = refl
 
 pub canadian-holds : AllCanadian canadianTable

@@ -50,7 +50,7 @@ use Rattle.sentence.specs.Words as sentence-words
 use Rattle.wording.specs.Text.{afterSpace, cut, lastParts, phrase, roomOf, sharesOf, textOf}
 use Rattle.outputs.specs.WorkingOutputs.{roomyText, uriIn}
 use Rattle.canadian.specs.Canadian.{canadianText}
-use Rattle.canadian.specs.WorkingCanadian.{canadianBy, canadianGiven, canadianOf, worded}
+use Rattle.canadian.specs.WorkingCanadian.{canadianBy, canadianGiven, canadianOf, wordsGiven}
 use Rattle.convert.specs.WorkingConvert.{alertGiven, convertOf, outcomeOf, roomy, textIn}
 use Rattle.report.specs.Lines.{alertLines, audioLine, audioWords, carryLine, decimal, line, linesOf, numberLine, orNone, valueLine}
 use Rattle.report.specs.Lines as report-lines
@@ -127,7 +127,7 @@ unfolding roomyText uriIn
 outputs-opens = tt
 
 canadian-opens : Unit {0}
-unfolding canadianBy canadianGiven canadianOf canadianText worded
+unfolding canadianBy canadianGiven canadianOf canadianText wordsGiven
 canadian-opens = tt
 
 convert-opens : Unit {0}

@@ -19,19 +19,19 @@ unasked = no "eventCode" ∷ no "expires" ∷ no "senderName" ∷ no "area" ∷ 
 abbrev pub spoken : List SamplePiece → List ℕ
 spoken cs = alertWith (cs ++ unasked)
 
--- with these parameters, or resources
+-- with these parameters, or canadianResources
 abbrev pub withParameters : List ℕ → List ℕ
 withParameters parameters = spoken (inPlace "parameter" parameters ∷ [])
 
 abbrev pub withResources : List ℕ → List ℕ
-withResources resources = spoken (inPlace "resource" resources ∷ [])
+withResources canadianResources = spoken (inPlace "resource" canadianResources ∷ [])
 
 abbrev pub broadcastElement : String → List ℕ
 broadcastElement value = parameterElement "layer:AEA:2.0:broadcastText" value
 
 -- an info of this language and this description
-abbrev pub infoIn : String → String → List ℕ
-infoIn language description = element "info" (leaf "language" language ++ leaf "description" description)
+abbrev pub infoOfLanguage : String → String → List ℕ
+infoOfLanguage language description = element "info" (leaf "language" language ++ leaf "description" description)
 
 -- ---- rows
 
@@ -45,8 +45,8 @@ pub record CanadianRow : Type 0 where
   pub text : String
 
 -- a refusal returns its number, zeros elsewhere
-abbrev pub refusedWith : List ℕ → ℕ → ℕ → CanadianRow
-refusedWith m number field = record { message = m; number = number; field = field; audio = 0; uri = ""; text = "" }
+abbrev pub refusedInCanada : List ℕ → ℕ → ℕ → CanadianRow
+refusedInCanada m number field = record { message = m; number = number; field = field; audio = 0; uri = ""; text = "" }
 
 -- a message of this text, with audio, or with none
 abbrev pub heardAs : List ℕ → ℕ → String → String → CanadianRow
@@ -101,17 +101,17 @@ descriptions =
     ∷ texted (spoken (no "instruction" ∷ [])) "Water main broken."
     ∷ texted (spoken (leafInPlace "instruction" "" ∷ [])) "Water main broken."
     -- of the info that document 01 selects: the first whose language is absent, empty or en-US; if none, the first
-    ∷ texted (spoken (inPlace "info" (infoIn "fr-CA" "Premier." ++ infoIn "en-CA" "First.") ∷ [])) "Premier."
-    ∷ texted (spoken (inPlace "info" (infoIn "fr-CA" "Premier." ++ infoIn "en-US" "First.") ∷ [])) "First."
+    ∷ texted (spoken (inPlace "info" (infoOfLanguage "fr-CA" "Premier." ++ infoOfLanguage "en-CA" "First.") ∷ [])) "Premier."
+    ∷ texted (spoken (inPlace "info" (infoOfLanguage "fr-CA" "Premier." ++ infoOfLanguage "en-US" "First.") ∷ [])) "First."
     -- 18, neither such a value
     ∷ texted (spoken (no "description" ∷ inPlace "parameter" (broadcastElement "T.") ∷ [])) "T."
     -- nor a non-empty description, whatever the instruction says
-    ∷ refusedWith (spoken (no "description" ∷ [])) 18 0
-    ∷ refusedWith (spoken (leafInPlace "description" "" ∷ no "instruction" ∷ inPlace "parameter" (broadcastElement "") ∷ [])) 18 0
+    ∷ refusedInCanada (spoken (no "description" ∷ [])) 18 0
+    ∷ refusedInCanada (spoken (leafInPlace "description" "" ∷ no "instruction" ∷ inPlace "parameter" (broadcastElement "") ∷ [])) 18 0
     -- and a refusal gives no audio
-    ∷ refusedWith (spoken (no "description" ∷ inPlace "resource" (resourceElement "audio/x-ipaws-audio-mp3" "m") ∷ [])) 18 0
+    ∷ refusedInCanada (spoken (no "description" ∷ inPlace "resource" (resourceElement "audio/x-ipaws-audio-mp3" "m") ∷ [])) 18 0
     -- without info there is neither
-    ∷ refusedWith (spoken (no "info" ∷ [])) 18 0
+    ∷ refusedInCanada (spoken (no "info" ∷ [])) 18 0
     ∷ []
 
 -- ---- numbers, audio
@@ -119,7 +119,7 @@ descriptions =
 unfoldable pub asked : List CanadianRow
 asked =
     -- no Cancel is quiet
-    refusedWith (spoken (leafInPlace "msgType" "Cancel" ∷ inPlace "references" earlier ∷ no "info" ∷ [])) 18 0
+    refusedInCanada (spoken (leafInPlace "msgType" "Cancel" ∷ inPlace "references" earlier ∷ no "info" ∷ [])) 18 0
     ∷ texted (spoken (leafInPlace "msgType" "Cancel" ∷ inPlace "references" earlier ∷ [])) "Water main broken. Boil water."
     -- 10 is skipped, references missing
     ∷ texted (spoken (leafInPlace "msgType" "Update" ∷ [])) "Water main broken. Boil water."
@@ -129,21 +129,21 @@ asked =
     ∷ texted (alertWith (eventInPlace "CEm" ∷ leafInPlace "expires" "2010" ∷ inPlace "parameter" (parameterElement "EAS-ORG" "XXX") ∷ areaInPlace (geocodeElement "1") ∷ []))
     "Water main broken. Boil water."
     -- 4 to 9 are asked
-    ∷ refusedWith (bytes "") 4 0
-    ∷ refusedWith (bytes "<a><b></a>") 5 0
-    ∷ refusedWith (bytes "<alert xmlns='urn:oasis:names:tc:emergency:cap:1.1'/>") 6 0
+    ∷ refusedInCanada (bytes "") 4 0
+    ∷ refusedInCanada (bytes "<a><b></a>") 5 0
+    ∷ refusedInCanada (bytes "<alert xmlns='urn:oasis:names:tc:emergency:cap:1.1'/>") 6 0
     -- 7: the field is the lowest of 1 to 6 at fault
-    ∷ refusedWith (spoken (leafInPlace "identifier" "B,1" ∷ [])) 7 1
+    ∷ refusedInCanada (spoken (leafInPlace "identifier" "B,1" ∷ [])) 7 1
     -- else 7, of every leaf that is read there
-    ∷ refusedWith (spoken (xml "eventCode" "<eventCode><valueName>SAME</valueName></eventCode>" ∷ [])) 7 7
-    ∷ refusedWith (spoken (xml "expires" "<expires/><expires/>" ∷ [])) 7 7
+    ∷ refusedInCanada (spoken (xml "eventCode" "<eventCode><valueName>SAME</valueName></eventCode>" ∷ [])) 7 7
+    ∷ refusedInCanada (spoken (xml "expires" "<expires/><expires/>" ∷ [])) 7 7
     -- 18 is asked after 8 and 9
-    ∷ refusedWith (spoken (leafInPlace "status" "Test" ∷ no "description" ∷ [])) 8 0
-    ∷ refusedWith (spoken (leafInPlace "msgType" "Ack" ∷ no "description" ∷ [])) 9 0
+    ∷ refusedInCanada (spoken (leafInPlace "status" "Test" ∷ no "description" ∷ [])) 8 0
+    ∷ refusedInCanada (spoken (leafInPlace "msgType" "Ack" ∷ no "description" ∷ [])) 9 0
     ∷ []
 
-unfoldable pub resources : List CanadianRow
-resources =
+unfoldable pub canadianResources : List CanadianRow
+canadianResources =
     -- a resource counts there as in the American mode: the first of these, with a uri
     heardAs (withResources (resourceElement "audio/x-ipaws-audio-mp3" "" ++ resourceElement "audio/x-ipaws-audio-mp3" "http://b/a")) 1 "http://b/a" "Water main broken. Boil water."
     ∷ heardAs (withResources (resourceElement "audio/x-ipaws-audio-wav" "w" ++ resourceElement "audio/x-ipaws-audio-mp3" "m")) 2 "w" "Water main broken. Boil water."
@@ -155,4 +155,4 @@ resources =
 -- ---- the table
 
 unfoldable pub canadianTable : List CanadianRow
-canadianTable = broadcasts ++ (descriptions ++ (asked ++ resources))
+canadianTable = broadcasts ++ (descriptions ++ (asked ++ canadianResources))

@@ -4,7 +4,7 @@ use Prim.Native.Nat.{ℕ}
 use mathlib.Core.List.{List}
 use denote.Ref.{now}
 use Rattle.outputs.specs.Outputs.{textAnswerOf}
-use Rattle.canadian.specs.WorkingCanadian.{worded, canadianGiven}
+use Rattle.canadian.specs.WorkingCanadian.{wordsGiven, canadianGiven}
 use Rattle.canadian.proofs.Outcomes.{no-words, some-words}
 use borrow.Author.Needs.{needs}
 use Rattle.canadian.proofs.write.Statement.{statement}

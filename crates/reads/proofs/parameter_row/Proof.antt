@@ -12,7 +12,7 @@ use Rattle.octets.specs.Text.{bytes}
 use Rattle.values.specs.Value.{valueAt, small}
 use Rattle.words.specs.WorkingWords.{wordsOf}
 use Rattle.reads.specs.Parameters.{broadcastText, readParameters}
-use Rattle.reads.specs.WorkingSteps.{rowOf}
+use Rattle.reads.specs.WorkingSteps.{parameterRow}
 use Rattle.reads.proofs.ParameterRows.{exact-row, behind-exact, broadcast-row}
 use Rattle.reads.proofs.parameter_row.Statement.{statement}
 use Rattle.reads.proofs.parameter_row.Tie as tie
@@ -32,7 +32,7 @@ valueOf c = let a = to-start c .args in valueAt (now (a .s)) (a .value)
 
 -- the row behind the exact names, by its tests
 behind : (c : tie.Else1) (b d : Bool) → let w = c .before in same (map small (nameOf w)) (bytes "layer:aea:2.0:broadcasttext") ≡ b → same (valueOf w) [] ≡ d
-    → 3 + pick (b && not d) 0 1 ≡ rowOf readParameters (nameOf w) (valueOf w)
+    → 3 + pick (b && not d) 0 1 ≡ parameterRow readParameters (nameOf w) (valueOf w)
 unfolding bytes wordsOf
 behind c b d p q =
     let w = c .before in
