@@ -4,16 +4,18 @@
 use Prim.Native.Nat.{ℕ, _≤_}
 use mathlib.Core.Path.{_≡_, refl, sym, ap, _∙_}
 use mathlib.Core.Bool.{Bool, true, false, _&&_, not}
-use mathlib.Core.List.{List, [], _∷_, _++_}
+use mathlib.Core.List.{List, [], _∷_, _++_, map}
 use native.Mathlib.Omega.{arith}
 use borrow.Author.Tests.{eqb-true, not-true}
 use lib.Dec.{eqb}
 use lib.ListN.{length, drop}
-use Rattle.octets.specs.Bytes.{pick, every, same}
+use Rattle.octets.specs.Bytes.{pick, between, every, same, isCapital}
 use Rattle.octets.specs.Text.{bytes}
 use Rattle.octets.proofs.Tests.{and-right}
-use Rattle.reads.specs.Parameters.{broadcastText, hasName, isOf}
-use Rattle.told.specs.Values.{isNone, firstValue, is, Pair, valuesUnder}
+use Rattle.reads.specs.Parameters.{broadcastText}
+use Rattle.values.specs.Value.{small}
+use Rattle.told.specs.Values.{isNone, firstValue, is, Pair, valuesWhere}
+use Rattle.told.proofs.Infos.{valuesUnder}
 use Rattle.message.specs.WorkingMessage.{judged, messageSays}
 use Rattle.message.specs.declared.Message.{Message}
 use Rattle.wording.specs.Text.{empty}
@@ -23,7 +25,7 @@ use Rattle.canadian.specs.WorkingCanadian.{lacksWords, broadcastIn, description
 use Rattle.canadian.proofs.Answers.{outcome-holds, canadian-small, canadian-gives}
 use Rattle.canadian.proofs.Answers as canadian
 use Rattle.demands.specs.Calls.{library}
-use Rattle.demands.specs.Message.{prefix, info, parameterValues, description, wholeInCanada}
+use Rattle.demands.specs.Message.{isBroadcast, broadcasts, description, wholeInCanada}
 use Rattle.demands.specs.Numbers.{NumberRow, row, Numbered, lowestIn, noneApplies, fieldBeside, messageRows, canadianRows}
 use Rattle.demands.proofs.Rows.{held, at-pick, lowest-append, numbered}
 use Rattle.demands.proofs.Fields.{Faultless}
@@ -32,28 +34,32 @@ use Rattle.demands.proofs.Infos.{told}
 
 -- ---- 18
 
+-- what the row of the broadcast text reads, in the demands' words
+broadcasts-read : (xs : List Pair) → valuesUnder broadcastText xs ≡ valuesWhere isBroadcast xs
+unfolding bytes small isCapital between every
+broadcasts-read xs = refl
+
 -- a broadcast text that is read is not empty
-first-none : (xs : List Pair) → empty (firstValue (valuesUnder broadcastText xs)) ≡ isNone (valuesUnder broadcastText xs)
-unfolding same
+first-none : (xs : List Pair) → empty (firstValue (valuesWhere isBroadcast xs)) ≡ isNone (valuesWhere isBroadcast xs)
+unfolding same bytes
 first-none [] = refl
-first-none (x ∷ xs) = go (isOf broadcastText (x .name) (x .value)) refl (first-none xs)
+first-none (x ∷ xs) = go (isBroadcast x) refl (first-none xs)
   where
     vs : List (List ℕ)
-    vs = valuesUnder broadcastText xs
+    vs = valuesWhere isBroadcast xs
 
-    go : (b : Bool) → isOf broadcastText (x .name) (x .value) ≡ b → empty (firstValue vs) ≡ isNone vs →
-        empty (firstValue (pick b (x .value ∷ vs) vs)) ≡ isNone (pick b (x .value ∷ vs) vs)
-    go true e h = not-true (same (x .value) []) (and-right (hasName broadcastText (x .name)) _ e)
+    go : (b : Bool) → isBroadcast x ≡ b → empty (firstValue vs) ≡ isNone vs → empty (firstValue (pick b (x .value ∷ vs) vs)) ≡ isNone (pick b (x .value ∷ vs) vs)
+    go true e h = not-true (same (x .value) []) (and-right (is "layer:aea:2.0:broadcasttext" (map small (x .name))) (not (is "" (x .value))) e)
     go false e h = h
 
 -- there is neither a broadcast text nor a description
 abbrev hasNoText : List ℕ → Bool
-hasNoText s = isNone (parameterValues broadcastText s) && is "" (description s)
+hasNoText s = isNone (broadcasts s) && is "" (description s)
 
 module _ (s : List ℕ) (k : Faultless s) where
   wordless-said : lacksWords (broadcastIn s (said s)) (descriptionIn s (said s)) ≡ hasNoText s
   unfolding judged bytes
-  wordless-said = let t = told s k in rw (t .parameters .each 3 (omega arith) .value, t .description, first-none _)
+  wordless-said = let t = told s k in rw (t .parameters .each 3 (omega arith) .value, broadcasts-read _, t .description, first-none _)
 
 -- ---- demand 1
 
@@ -98,7 +104,7 @@ module _ (s : List ℕ) (t u : ℕ) where
       let g = canadian-gives s t u (canadian-numbered .zero-exactly .1 none) in
       let k = told s (message-faultless s (g .0)) in
       g .1 ∙ ap (canadianGiven s) (message-said s (g .0))
-      ∙ rw (k .parameters .each 3 (omega arith) .value, k .description, k .instruction, k .audio .uri, k .audio .number)
+      ∙ rw (k .parameters .each 3 (omega arith) .value, broadcasts-read _, k .description, k .instruction, k .audio .uri, k .audio .number)
 
   pub canadian-short : length (library .canadian s t u .given .text) ≤ 1800
   unfolding textAnswerOf

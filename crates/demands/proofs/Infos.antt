@@ -22,7 +22,6 @@ use Rattle.parts.specs.Originator.{originatorBytes, originatorOf, isKnown}
 use Rattle.parts.specs.Parts.{eventOk}
 use Rattle.parts.specs.declared.Originator.the-variants.{Pep, Eas, Wxr, Civ}
 use Rattle.parts.specs.declared.Origin.the-variants.{Known, Unknown}
-use Rattle.reads.specs.Parameters.{easOrg}
 use Rattle.reads.specs.WorkingLeaves.{noLeaf, easOrgLeaf}
 use Rattle.reads.specs.declared.Info.{Info}
 use Rattle.reads.specs.declared.Leaf.{Leaf}
@@ -38,7 +37,7 @@ use Rattle.told.proofs.Leaves.{leaf-value, leaf-none}
 use Rattle.told.proofs.Infos.{FoundTells, events-tell, ParametersTell, parameters-tell, AudioTells, audio-tells}
 use Rattle.told.proofs.Locations.{LocationsTell, locations-tell}
 use Rattle.told.proofs.Alerts.{selected-tells, selected-none, selected-real}
-use Rattle.demands.specs.Message.{prefix, alert, info, expires, senderName, description, instruction, events, locations, parameterValues, originator, isQuiet}
+use Rattle.demands.specs.Message.{prefix, alert, info, expires, senderName, description, instruction, events, locations, parametersNamed, originator, isQuiet}
 use Rattle.demands.specs.Message.{sentSeconds, expiresSeconds}
 use Rattle.demands.specs.Numbers.{isEvent}
 use Rattle.demands.proofs.Fields.{alert-real, read, Faultless}
@@ -193,7 +192,7 @@ module _ (s : List ℕ) (k : Faultless s) where
   unfolding originOf
   origin-said =
       let x = told s k .parameters .each 0 (omega arith) in
-      let vs = parameterValues easOrg s in
+      let vs = parametersNamed "EAS-ORG" s in
       rw (x .count, two-none vs, x .value) (first-origin vs)
 
   pub known-said : isKnown (originOf s (easOrgLeaf (read s .info))) ≡ hasOrigin s

@@ -1,6 +1,7 @@
 -- A message on its tree, and what a conversion gives for it: the header's parts one by one, text, audio and must-carry. s is the message.
 use Prim.Native.Nat.{ℕ, _+_, _-_, min}
-use mathlib.Core.Bool.{Bool, true, false, _&&_, _||_}
+use Prim.Native.String.{String}
+use mathlib.Core.Bool.{Bool, true, false, _&&_, _||_, not}
 use mathlib.Core.List.{List, [], _∷_, _++_, map}
 use lib.ListN.{length, take}
 use Rattle.octets.specs.Digits.{value}
@@ -15,9 +16,9 @@ use Rattle.parts.specs.declared.Parts.{Parts}
 use Rattle.header.specs.Header.{headerBytes}
 use Rattle.markup.specs.Tree.{Forest, nil, One, one, none}
 use Rattle.markup.specs.Document.{docAt}
-use Rattle.reads.specs.Parameters.{ReadParameter, easOrg, easText, easMustCarry, broadcastText}
+use Rattle.values.specs.Value.{small}
 use Rattle.gather.specs.Read.{named}
-use Rattle.told.specs.Values.{isNone, firstValue, is, valueOf, valuesUnder, valuesNamed, eventCodes, parameters, geocodes, selectedIn, audioIn}
+use Rattle.told.specs.Values.{isNone, firstValue, is, valueOf, Pair, valuesWhere, valuesNamed, eventCodes, parameters, geocodes, selectedIn, audioIn}
 use Rattle.message.specs.Root.{prefixOf}
 use Rattle.sentence.specs.Words.{sentenceOf}
 use Rattle.wording.specs.Text.{textOf}
@@ -89,13 +90,20 @@ events s = valuesNamed "SAME" (eventCodes s (prefix s) (info s))
 abbrev pub locations : List ℕ → List (List ℕ)
 locations s = valuesNamed "SAME" (geocodes s (prefix s) (info s))
 
--- the values of its parameters of one row
-abbrev pub parameterValues : ReadParameter → List ℕ → List (List ℕ)
-parameterValues r s = valuesUnder r (parameters s (prefix s) (info s))
+-- the values of its parameters of exactly this name
+abbrev pub parametersNamed : String → List ℕ → List (List ℕ)
+parametersNamed w s = valuesNamed w (parameters s (prefix s) (info s))
+
+-- the non-empty values of those named `layer:AEA:2.0:broadcastText`, name in any letter case
+abbrev pub isBroadcast : Pair → Bool
+isBroadcast x = is "layer:aea:2.0:broadcasttext" (map small (x .name)) && not (is "" (x .value))
+
+abbrev pub broadcasts : List ℕ → List (List ℕ)
+broadcasts s = valuesWhere isBroadcast (parameters s (prefix s) (info s))
 
 -- ORG: first EAS-ORG parameter; absent means CIV
 abbrev pub originator : List ℕ → List ℕ
-originator s = firstValue (parameterValues easOrg s ++ (bytes "CIV" ∷ []))
+originator s = firstValue (parametersNamed "EAS-ORG" s ++ (bytes "CIV" ∷ []))
 
 -- a Cancel with no info, no SAME eventCode, no SAME geocode or no expires is quiet
 abbrev pub isQuiet : List ℕ → Bool
@@ -133,15 +141,15 @@ headerParts s station = record { body = headerBody s; station = station }
 -- the sentence of these parts, with the first EASText, or senderName, description and instruction
 abbrev pub alertText : List ℕ → List ℕ
 alertText s =
-    textOf (sentenceOf (headerBody s)) (firstValue (parameterValues easText s)) (senderName s) (description s) (instruction s)
+    textOf (sentenceOf (headerBody s)) (firstValue (parametersNamed "EASText" s)) (senderName s) (description s) (instruction s)
 
--- the first non-empty value of a parameter named `layer:AEA:2.0:broadcastText`, or description and instruction
+-- the first broadcast text, or description and instruction
 abbrev pub textInCanada : List ℕ → List ℕ
-textInCanada s = canadianText (firstValue (parameterValues broadcastText s)) (description s) (instruction s)
+textInCanada s = canadianText (firstValue (broadcasts s)) (description s) (instruction s)
 
 -- must-carry: the first EAS-Must-Carry parameter is `True`
 abbrev pub mustCarry : List ℕ → Bool
-mustCarry s = is "True" (firstValue (parameterValues easMustCarry s))
+mustCarry s = is "True" (firstValue (parametersNamed "EAS-Must-Carry" s))
 
 -- all that a message gives that answers 0 and is not quiet
 unfoldable pub wholeOf : List ℕ → List ℕ → Given

@@ -12,8 +12,7 @@ use Rattle.octets.proofs.Tests.{every-left, every-right, every-first}
 use Rattle.gather.specs.Read.{Element}
 use Rattle.leaves.proofs.Reals.{Real, AllReal}
 use Rattle.leaves.proofs.Places.{Reals}
-use Rattle.told.specs.Values.{passing, Pair, valuesUnder}
-use Rattle.reads.specs.Parameters.{ReadParameter, isOf}
+use Rattle.told.specs.Values.{passing, Pair, valuesWhere}
 
 -- ---- one more
 
@@ -35,12 +34,12 @@ passing-last {A} f (y ∷ xs) x =
     ap (λ (zs : List A). pick (f y) (y ∷ zs) zs) (passing-last f xs x)
     ∙ kept-append (f y) y (passing f xs) (pick (f x) (x ∷ []) [])
 
--- the values of a name
-pub values-last : (r : ReadParameter) (xs : List Pair) (x : Pair) → valuesUnder r (xs ++ (x ∷ [])) ≡ valuesUnder r xs ++ pick (isOf r (x .name) (x .value)) (x .value ∷ []) []
-values-last r [] x = refl
-values-last r (y ∷ xs) x =
-    ap (λ (zs : List (List ℕ)). pick (isOf r (y .name) (y .value)) (y .value ∷ zs) zs) (values-last r xs x)
-    ∙ kept-append (isOf r (y .name) (y .value)) (y .value) (valuesUnder r xs) (pick (isOf r (x .name) (x .value)) (x .value ∷ []) [])
+-- the values of those that pass
+pub values-last : (f : Pair → Bool) (xs : List Pair) (x : Pair) → valuesWhere f (xs ++ (x ∷ [])) ≡ valuesWhere f xs ++ pick (f x) (x .value ∷ []) []
+values-last f [] x = refl
+values-last f (y ∷ xs) x =
+    ap (λ (zs : List (List ℕ)). pick (f y) (y .value ∷ zs) zs) (values-last f xs x)
+    ∙ kept-append (f y) (y .value) (valuesWhere f xs) (pick (f x) (x .value ∷ []) [])
 
 -- what is seen of a choice
 pub pick-of : {A B : Type 0} (f : A → B) (b : Bool) (x y : A) → f (pick b x y) ≡ pick b (f x) (f y)

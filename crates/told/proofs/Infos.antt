@@ -29,7 +29,7 @@ use Rattle.gather.specs.Read.{Element, named}
 use Rattle.gather.specs.WorkingRead.{leafIn, withEvent, withParameter, withResource, infoOf}
 use Rattle.leaves.proofs.Reals.{AllReal}
 use Rattle.leaves.proofs.Places.{named-real}
-use Rattle.told.specs.Values.{isNone, passing, firstValue, is, Pair, pairOf, eventCodes, parameters, valuesUnder, valuesNamed, pairSound, resourceSound}
+use Rattle.told.specs.Values.{isNone, passing, firstValue, is, Pair, pairOf, eventCodes, parameters, valuesWhere, valuesNamed, pairSound, resourceSound}
 use Rattle.told.specs.Values.{audioNumber, suitable, Choice, choiceOf, audioIn}
 use Rattle.told.proofs.Folds.{passing-last, values-last, pick-of, step-fault, fold-fault, fold-sound}
 use Rattle.told.proofs.Leaves.{found-count, found-value, leaf-sound, leaf-value, pair-sound}
@@ -44,10 +44,14 @@ pub record FoundTells (s : List ℕ) (l : Leaf) (vs : List (List ℕ)) : Type 0 
 none-found : (s : List ℕ) → FoundTells s (noLeaf (length s)) []
 none-found s = record { count = refl; value = value-past s (length s) (omega arith) }
 
+-- the values that a row of the table of parameters reads
+abbrev pub valuesUnder : ReadParameter → List Pair → List (List ℕ)
+valuesUnder r xs = valuesWhere (λ (x : Pair). isOf r (x .name) (x .value)) xs
+
 -- one pair more, its name at i and its value at j: found where it is one of the row's
 one-found : (s : List ℕ) (r : ReadParameter) (l : Leaf) (xs : List Pair) (x : Pair) (i j : ℕ) → valueAt s i ≡ x .name → valueAt s j ≡ x .value
     → FoundTells s l (valuesUnder r xs) → FoundTells s (pick (isOf r (valueAt s i) (valueAt s j)) (found l j) l) (valuesUnder r (xs ++ (x ∷ [])))
-one-found s r l xs x i j n v h = rw (n, v, values-last r xs x) (go (isOf r (x .name) (x .value)))
+one-found s r l xs x i j n v h = rw (n, v, values-last (λ (y : Pair). isOf r (y .name) (y .value)) xs x) (go (isOf r (x .name) (x .value)))
   where
     vs : List (List ℕ)
     vs = valuesUnder r xs

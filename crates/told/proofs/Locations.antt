@@ -29,8 +29,7 @@ use Rattle.gather.specs.WorkingRead.{leafIn, withGeocode, infoOf}
 use Rattle.leaves.proofs.Reals.{AllReal}
 use Rattle.leaves.proofs.Places.{Reals, named-real}
 use Rattle.leaves.proofs.Fits.{LocationsFit, location-fits, no-locations-fit, info-locations-fit}
-use Rattle.reads.specs.Parameters.{exactly}
-use Rattle.told.specs.Values.{passing, is, isSix, geocodesIn, geocodes, valuesNamed, pairSound}
+use Rattle.told.specs.Values.{passing, is, Pair, isSix, geocodesIn, geocodes, valuesNamed, pairSound}
 use Rattle.told.proofs.Folds.{every-last, passing-last, values-last, pick-of, reals-append, step-fault, fold-fault, fold-sound}
 use Rattle.told.proofs.Leaves.{leaf-value, pair-sound}
 use Rattle.told.proofs.Infos.{pair, names}
@@ -151,7 +150,7 @@ module _ (s p : List ℕ) where
   location-placed x ds e a o f h =
       let n = leaf-value s p "valueName" (e .holds) a in
       let u = leaf-value s p "value" (e .holds) a in
-      rw (pair-sound s p e a, o, n, u, map-append (pair s p) ds (e ∷ []), values-last (exactly "SAME") (map (pair s p) ds) (pair s p e))
+      rw (pair-sound s p e a, o, n, u, map-append (pair s p) ds (e ∷ []), values-last (λ (x : Pair). is "SAME" (x .name)) (map (pair s p) ds) (pair s p e))
       (go (is "SAME" (pair s p e .name)))
     where
       v : List ℕ

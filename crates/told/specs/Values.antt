@@ -10,7 +10,6 @@ use Rattle.octets.specs.Bytes.{pick, every, holds, between, same, isDigit}
 use Rattle.octets.specs.Text.{bytes}
 use Rattle.markup.specs.Tree.{Forest, nil}
 use Rattle.values.specs.Value.{small}
-use Rattle.reads.specs.Parameters.{ReadParameter, exactly, isOf}
 use Rattle.gather.specs.Read.{Element, named, bare}
 use Rattle.leaves.specs.Leaf.{leafValue}
 
@@ -85,14 +84,14 @@ geocodes s p t = map (pairOf s p "valueName" "value") (geocodesIn s p t)
 abbrev pub resources : List ℕ → List ℕ → Forest → List Pair
 resources s p t = map (pairOf s p "mimeType" "uri") (named s p "resource" t)
 
--- the values of the parameters of one row of their table, in message order
-abbrev pub valuesUnder : ReadParameter → List Pair → List (List ℕ)
-valuesUnder r [] = []
-valuesUnder r (x ∷ xs) = pick (isOf r (x .name) (x .value)) (x .value ∷ valuesUnder r xs) (valuesUnder r xs)
+-- the values of the pairs that pass, in message order
+abbrev pub valuesWhere : (Pair → Bool) → List Pair → List (List ℕ)
+valuesWhere f [] = []
+valuesWhere f (x ∷ xs) = pick (f x) (x .value ∷ valuesWhere f xs) (valuesWhere f xs)
 
--- the values of the pairs of exactly this name
+-- of exactly this name
 abbrev pub valuesNamed : String → List Pair → List (List ℕ)
-valuesNamed w xs = valuesUnder (exactly w) xs
+valuesNamed w xs = valuesWhere (λ (x : Pair). is w (x .name)) xs
 
 -- six digits
 abbrev pub isSix : List ℕ → Bool
