@@ -4,7 +4,7 @@ use mathlib.Core.Path.{_≡_, refl}
 use mathlib.Core.Bool.{Bool, true, false, not}
 use mathlib.Core.List.{List, [], _∷_}
 use Rattle.octets.specs.Bytes.{pick, same, every, between, oneOf, isDigit, isCapital, isLetter, isSpace, isVisible}
-use Rattle.octets.specs.Scan.{scan}
+use Rattle.octets.specs.Scan.{scanBy}
 use Rattle.octets.specs.Text.{bytes}
 use Rattle.pieces.specs.Classes.{mayStand, isStart, isNamed, isPlain, figureOf, isFigure}
 use Rattle.pieces.specs.Walk.{stepped, walk}
@@ -61,5 +61,5 @@ unfoldable right : Figure → Bool
 right f = pick (f .is) (good (f .text)) (not (good (f .text)))
 
 figures-hold : every right figures ≡ true
-unfolding isOne good right docAt beforeRoot led rootAt rooted ended miscAt miscStep goOn declarationAt inDeclaration elemAt opened closed sealed items pieceThen child inFront openAt tailed tailAt shutAt takeAt taken unlessNamed closeAt attrNamed seekAt sought attrAt equalled attributeOf quotedAt bitAt over pieceAt tagAt referred noted inText charAt refAt numberAt numeralFrom wordedAt noteAt inNote nameAt short plainAt walk stepped isFigure figureOf isPlain isNamed isStart mayStand bytes scan isVisible isSpace isLetter isCapital isDigit oneOf between every same
+unfolding isOne good right docAt beforeRoot led rootAt rooted ended miscAt miscStep goOn declarationAt inDeclaration elemAt opened closed sealed items pieceThen child inFront openAt tailed tailAt shutAt takeAt taken unlessNamed closeAt attrNamed seekAt sought attrAt equalled attributeOf quotedAt bitAt over pieceAt tagAt referred noted inText charAt refAt numberAt numeralFrom wordedAt noteAt inNote nameAt short plainAt walk stepped isFigure figureOf isPlain isNamed isStart mayStand bytes scanBy isVisible isSpace isLetter isCapital isDigit oneOf between every same
 figures-hold = refl

@@ -9,10 +9,10 @@ use lib.Seq.{getD-take, getD-drop}
 use lib.Dec.{eqb, lit<}
 use borrow.Author.Tests.{eqb-true, eqb-false, le-leb, lt-leb}
 use Rattle.octets.specs.Bytes.{pick, byteAt, stands}
-use Rattle.octets.specs.Scan.{scan}
+use Rattle.octets.specs.Scan.{scanBy, scan}
 use Rattle.octets.specs.Text.{bytes}
 use Rattle.octets.proofs.Sames.{stands-is}
-use Rattle.octets.proofs.Scans.{scan-ge, scan-more, scan-stop}
+use Rattle.octets.proofs.Scans.{scan-ge, by-more, by-stop}
 use Rattle.octets.proofs.Tests.{and-left}
 use Rattle.pieces.specs.Classes.{isPlain}
 use Rattle.pieces.specs.Pieces.{noteAt, refAt, charAt, inText, noted, referred, tagAt, pieceAt}
@@ -52,7 +52,7 @@ module _ (s : List ℕ) where
 
   -- a run of bytes that stand for themselves
   run-text : (n m i : ℕ) → scan (inText s) n i ≤ i + m → textAt s i ≡ charsTo s (scan (inText s) n i) m i ++ textAt s (scan (inText s) n i)
-  unfolding scan
+  unfolding scanBy
   run-text zero m i h = rw (chars-none m i)
   run-text (suc n) m i h = go (inText s i) refl m h (run-text n)
     where
@@ -68,8 +68,8 @@ module _ (s : List ℕ) where
           (text-char s i (byteAt s i) (i + 1) (char-next s i (byteAt s i) (i + 1) q) ∙ ap (λ (t : List ℕ). byteAt s i ∷ t) (f m (i + 1) (omega arith)))
 
       go : (b : Bool) → inText s i ≡ b → (m : ℕ) → scan (inText s) (suc n) i ≤ i + m → Rest → textAt s i ≡ charsTo s (scan (inText s) (suc n) i) m i ++ textAt s (scan (inText s) (suc n) i)
-      go true e m h f = rw (scan-more (inText s) n i e) (one e m (rw (scan-more (inText s) n i e) at h) f)
-      go false e m h f = rw (scan-stop (inText s) (suc n) i e, chars-none m i)
+      go true e m h f = rw (by-more (λ j. 1) (inText s) n i e) (one e m (rw (by-more (λ j. 1) (inText s) n i e) at h) f)
+      go false e m h f = rw (by-stop (λ j. 1) (inText s) (suc n) i e, chars-none m i)
 
   -- ---- tags
 

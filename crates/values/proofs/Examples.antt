@@ -5,7 +5,7 @@ use Prim.Native.Nat.{ℕ}
 use Prim.Native.String.{String}
 use Rattle.octets.specs.Bytes.{every, between, oneOf, same, isDigit, isSpace, isVisible}
 use Rattle.octets.specs.Digits.{valueFrom, numOf}
-use Rattle.octets.specs.Scan.{scan}
+use Rattle.octets.specs.Scan.{scanBy}
 use Rattle.octets.specs.Text.{bytes}
 use Rattle.octets.specs.declared.Num.the-variants.{Value, Bad}
 use Rattle.pieces.specs.Classes.{mayStand, isPlain, figureOf, isFigure}
@@ -28,5 +28,5 @@ pub record Examples : Type 0 where
   pub too-long : sixDigits (said "0240310</") ≡ Bad
 
 pub examples : Examples
-unfolding sixDigits numOf valueFrom valueAt collapsed trimmed spaced runs textAt fold turn nextAt passed met charAt refAt numberAt numeralFrom wordedAt noteAt inNote isFigure figureOf isPlain mayStand isSpace isVisible isDigit between oneOf every same scan bytes
+unfolding sixDigits numOf valueFrom valueAt collapsed trimmed spaced runs textAt fold turn nextAt passed met charAt refAt numberAt numeralFrom wordedAt noteAt inNote isFigure figureOf isPlain mayStand isSpace isVisible isDigit between oneOf every same scanBy bytes
 examples = record { trims = refl; comment-gap = refl; comment-none = refl; reference-gap = refl; refers = refl; only-space = refl; location = refl; too-long = refl }

@@ -2,7 +2,7 @@
 -- definition of which a message's numbers, what it gives and the program's lines are made.
 use Rattle.octets.specs.Bytes.{between, every, isCapital, isDigit, isLetter, isSpace, isVisible, oneOf, same}
 use Rattle.octets.specs.Digits.{digits, inRange, numOf, valueFrom}
-use Rattle.octets.specs.Scan.{scan}
+use Rattle.octets.specs.Scan.{scanBy}
 use Rattle.octets.specs.Text.{bytes}
 use Rattle.pieces.specs.Classes.{figureOf, isFigure, isNamed, isPlain, isStart, mayStand}
 use Rattle.pieces.specs.Pieces.{charAt, inNote, inText, nameAt, noteAt, noted, numberAt, numeralFrom, pieceAt, plainAt, refAt, referred, short, tagAt, wordedAt}
@@ -57,7 +57,7 @@ use Rattle.report.specs.Lines as report-lines
 use Rattle.report.specs.Program.{programOf}
 
 octets-opens : Unit {0}
-unfolding between every isCapital isDigit isLetter isSpace isVisible oneOf same digits inRange numOf valueFrom scan bytes
+unfolding between every isCapital isDigit isLetter isSpace isVisible oneOf same digits inRange numOf valueFrom scanBy bytes
 octets-opens = tt
 
 clock-opens : Unit {0}

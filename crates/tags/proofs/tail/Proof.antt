@@ -8,7 +8,7 @@ use denote.Ref.{now}
 use borrow.Author.Needs.{needs}
 use Rattle.octets.specs.Bytes.{byteAt, oneOf, isSpace}
 use Rattle.octets.specs.Scan.{past}
-use Rattle.octets.proofs.Scans.{scan-stop}
+use Rattle.octets.proofs.Scans.{by-stop}
 use Rattle.pieces.specs.Walk.{walk, walkAt, stepped}
 use Rattle.pieces.specs.declared.End.the-variants.{At}
 use Rattle.tags.specs.Attributes.{attrAt}
@@ -21,7 +21,7 @@ at-once : (s : List ℕ) (a : ℕ) → byteAt s a ≡ 62 → Full a (a + 1) ≡ 
 unfolding tailAt shutAt walk stepped takeAt taken attrAt isSpace oneOf
 at-once s a e =
     let n : isSpace (byteAt s a) ≡ false = ap isSpace e in
-    let p : past isSpace s a ≡ a = scan-stop (λ j. isSpace (byteAt s j)) (length s) a n in
+    let p : past isSpace s a ≡ a = by-stop (λ j. 1) (λ j. isSpace (byteAt s j)) (length s) a n in
     let w : walkAt (takeAt s a) s a ≡ At a = rw (p, e) in
     rw (w, e)
 
