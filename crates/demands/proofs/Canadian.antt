@@ -12,7 +12,7 @@ use lib.ListN.{length, drop}
 use Rattle.octets.specs.Bytes.{pick, between, every, same, isCapital}
 use Rattle.octets.specs.Text.{bytes}
 use Rattle.octets.proofs.Tests.{and-right}
-use Rattle.reads.specs.Parameters.{broadcastText}
+use Rattle.reads.specs.WorkingParameters.{broadcastText}
 use Rattle.values.specs.Value.{small}
 use Rattle.told.specs.Values.{isNone, firstValue, is, Pair, valuesWhere}
 use Rattle.told.proofs.Infos.{valuesUnder}
@@ -25,7 +25,7 @@ use Rattle.canadian.specs.WorkingCanadian.{lacksWords, broadcastIn, description
 use Rattle.canadian.proofs.Answers.{outcome-holds, canadian-small, canadian-gives}
 use Rattle.canadian.proofs.Answers as canadian
 use Rattle.demands.specs.Calls.{library}
-use Rattle.demands.specs.Message.{isBroadcast, broadcasts, description, wholeInCanada}
+use Rattle.demands.specs.Message.{isBroadcast, broadcastValues, description, wholeInCanada}
 use Rattle.demands.specs.Numbers.{NumberRow, row, Numbered, lowestIn, noneApplies, fieldBeside, messageRows, canadianRows}
 use Rattle.demands.proofs.Rows.{held, at-pick, lowest-append, numbered}
 use Rattle.demands.proofs.Fields.{Faultless}
@@ -54,7 +54,7 @@ first-none (x ∷ xs) = go (isBroadcast x) refl (first-none xs)
 
 -- there is neither a broadcast text nor a description
 abbrev hasNoText : List ℕ → Bool
-hasNoText s = isNone (broadcasts s) && is "" (description s)
+hasNoText s = isNone (broadcastValues s) && is "" (description s)
 
 module _ (s : List ℕ) (k : Faultless s) where
   wordless-said : lacksWords (broadcastIn s (said s)) (descriptionIn s (said s)) ≡ hasNoText s

@@ -98,8 +98,8 @@ parametersNamed w s = valuesNamed w (parameters s (prefix s) (info s))
 abbrev pub isBroadcast : Pair → Bool
 isBroadcast x = is "layer:aea:2.0:broadcasttext" (map small (x .name)) && not (is "" (x .value))
 
-abbrev pub broadcasts : List ℕ → List (List ℕ)
-broadcasts s = valuesWhere isBroadcast (parameters s (prefix s) (info s))
+abbrev pub broadcastValues : List ℕ → List (List ℕ)
+broadcastValues s = valuesWhere isBroadcast (parameters s (prefix s) (info s))
 
 -- ORG: first EAS-ORG parameter; absent means CIV
 abbrev pub originator : List ℕ → List ℕ
@@ -145,7 +145,7 @@ alertText s =
 
 -- the first broadcast text, or description and instruction
 abbrev pub textInCanada : List ℕ → List ℕ
-textInCanada s = canadianText (firstValue (broadcasts s)) (description s) (instruction s)
+textInCanada s = canadianText (firstValue (broadcastValues s)) (description s) (instruction s)
 
 -- must-carry: the first EAS-Must-Carry parameter is `True`
 abbrev pub mustCarry : List ℕ → Bool

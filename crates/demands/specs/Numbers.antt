@@ -19,7 +19,7 @@ use Rattle.ledger.specs.Sorted.{In, ascending}
 use Rattle.board.specs.Rules.{boardOf}
 use Rattle.told.specs.Values.{isNone, firstValue, is, isOne, once, isSix, infoSound, languagesSound}
 use Rattle.message.specs.Root.{rootOk}
-use Rattle.demands.specs.Message.{prefix, alert, info, identifier, sender, sent, status, msgType, scope, references, expires, events, locations, originator, isQuiet, sentSeconds, expiresSeconds, broadcasts, description}
+use Rattle.demands.specs.Message.{prefix, alert, info, identifier, sender, sent, status, msgType, scope, references, expires, events, locations, originator, isQuiet, sentSeconds, expiresSeconds, broadcastValues, description}
 use Rattle.demands.specs.Board.{messageRecords, newTo, dueHeaders}
 
 pub record NumberRow : Type 0 where
@@ -135,7 +135,7 @@ abbrev pub canadianRows : List ℕ → ℕ → ℕ → List NumberRow
 canadianRows s text uri =
     row 2 (not (every holds (leb 1800 text ∷ leb 1024 uri ∷ [])))
     ∷ (messageRows s
-    ++ (row 18 (isNone (broadcasts s) && is "" (description s)) ∷ []))
+    ++ (row 18 (isNone (broadcastValues s) && is "" (description s)) ∷ []))
 
 -- ---- an offer to a board asks 1 and 4 to 15
 

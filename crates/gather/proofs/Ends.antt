@@ -14,7 +14,7 @@ use native.Mathlib.Omega.{arith}
 use lib.ListN.{length, replicate}
 use Rattle.octets.specs.Bytes.{pick}
 use Rattle.values.specs.Value.{valueAt}
-use Rattle.reads.specs.Parameters.{readParameters, parameterCount}
+use Rattle.reads.specs.WorkingParameters.{readParameters, parameterCount}
 use Rattle.reads.specs.WorkingLeaves.{noLeaf, found, pairOk, noInfo, soundOf, languageLeaf}
 use Rattle.reads.specs.WorkingSteps.{eventStep, parameterStep, parameterRow, locationStep, audioStep, english, languageFault, isNothing, infoStep, laterStep}
 use Rattle.reads.specs.declared.Leaf.{Leaf}

@@ -16,7 +16,7 @@ use Rattle.markup.specs.Tree.{Forest, nil, text, elem, One, one, none}
 use Rattle.markup.specs.Document.{docAt}
 use Rattle.reads.specs.WorkingLeaves.{noLeaf, found, soundOf, pairOk, noInfo, nothingRead}
 use Rattle.reads.specs.WorkingSteps.{says, isAudio, eventStep, rowsStep, parameterStep, audioStep, english}
-use Rattle.reads.specs.Parameters.{ReadParameter, readParameters, isOf}
+use Rattle.reads.specs.WorkingParameters.{ReadParameter, readParameters, isOf}
 use Rattle.values.specs.Value.{valueAt}
 use Rattle.reads.specs.declared.Leaf.{Leaf}
 use Rattle.reads.specs.declared.Events.{Events}

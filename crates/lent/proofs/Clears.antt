@@ -17,7 +17,7 @@ use lib.Seq.{getD-set-same, getD-set-other}
 use Rattle.reads.specs.declared.Leaf.{Leaf}
 use Rattle.reads.specs.WorkingLeaves.{noLeaf, noInfo, nothingRead}
 use Rattle.lent.specs.WorkingLent.{numberIn, narrowed, keptNumbered, lentLeaf, lentLeaves, lentNumbers, infoNumbers, lentInfo, chosenFrom, lentState, ButFor, Zeros}
-use Rattle.reads.specs.Parameters.{parameterCount}
+use Rattle.reads.specs.WorkingParameters.{parameterCount}
 use Rattle.lent.proofs.Parts.{but-alike, but-nothing, but-join, leaf-as, leaves-as, info-as}
 
 -- ---- numbers are put

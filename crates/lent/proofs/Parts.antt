@@ -11,7 +11,7 @@ use native.Mathlib.Omega.{arith}
 use lib.ListN.{length, set, length-set}
 use lib.Seq.{getD-set-same, getD-set-other}
 use Rattle.lent.specs.WorkingLent.{numberIn, lentLeaf, lentLeaves, lentNumbers, lentEvents, lentAudio, lentLocations, parameterNumbers, infoNumbers, lentParameters, lentInfo, ButFor}
-use Rattle.reads.specs.Parameters.{parameterCount}
+use Rattle.reads.specs.WorkingParameters.{parameterCount}
 
 -- the n numbers from b in m are those from a in l
 abbrev pub Alike : List ℕ → List ℕ → ℕ → ℕ → ℕ → Type 0

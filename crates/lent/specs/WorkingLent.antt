@@ -17,7 +17,7 @@ use Rattle.reads.specs.declared.Info.{Info}
 use Rattle.reads.specs.declared.Kept.{Kept}
 use Rattle.reads.specs.declared.Kept.the-variants.{Nothing, First, Selected}
 use Rattle.reads.specs.declared.State.{State}
-use Rattle.reads.specs.Parameters.{parameterCount}
+use Rattle.reads.specs.WorkingParameters.{parameterCount}
 
 -- ---- single numbers
 

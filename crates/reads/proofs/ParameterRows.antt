@@ -18,7 +18,7 @@ use Rattle.values.specs.Value.{valueAt, small}
 use Rattle.words.specs.WorkingWords.{whichOf}
 use Rattle.reads.specs.declared.Leaf.{Leaf}
 use Rattle.reads.specs.WorkingLeaves.{noLeaf, found}
-use Rattle.reads.specs.Parameters.{ReadParameter, exactly, easText, easMustCarry, broadcastText, readParameters, isOf}
+use Rattle.reads.specs.WorkingParameters.{ReadParameter, exactly, easText, easMustCarry, broadcastText, readParameters, isOf}
 use Rattle.reads.specs.WorkingSteps.{rowStep, rowsStep, parameterRow}
 
 module _ (s : List ℕ) (name value : Leaf) where

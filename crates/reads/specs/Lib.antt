@@ -1,4 +1,4 @@
 pub mod WorkingLeaves
 pub mod Names
-pub mod Parameters
+pub mod WorkingParameters
 pub mod WorkingSteps

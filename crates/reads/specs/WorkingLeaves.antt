@@ -10,7 +10,7 @@ use Rattle.reads.specs.declared.Info.{Info}
 use Rattle.reads.specs.declared.Alert.{Alert}
 use Rattle.reads.specs.declared.Kept.the-variants.{Nothing}
 use Rattle.reads.specs.declared.State.{State}
-use Rattle.reads.specs.Parameters.{parameterCount}
+use Rattle.reads.specs.WorkingParameters.{parameterCount}
 
 -- a leaf that is absent from a message of n bytes: its value, at the message's end, is empty
 abbrev pub noLeaf : ℕ → Leaf

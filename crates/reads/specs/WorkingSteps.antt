@@ -19,7 +19,7 @@ use Rattle.reads.specs.declared.Info.{Info}
 use Rattle.reads.specs.declared.Alert.{Alert}
 use Rattle.reads.specs.declared.Kept.{Kept}
 use Rattle.reads.specs.declared.Kept.the-variants.{Nothing, First, Selected}
-use Rattle.reads.specs.Parameters.{ReadParameter, readParameters, isOf}
+use Rattle.reads.specs.WorkingParameters.{ReadParameter, readParameters, isOf}
 use Rattle.reads.specs.WorkingLeaves.{found, soundOf, pairOk, languageLeaf}
 
 -- the value at n is this text

@@ -5,7 +5,7 @@ ghost use Prim.Native.Nat.{_≤_};
 ghost use lib.ListN.{length};
 ghost use Rattle.reads.specs.WorkingLeaves.{noLeaf, marked, found, soundOf, onlyOf, pairOk, noInfo, nothingRead};
 ghost use Rattle.values.specs.Value.{valueAt};
-ghost use Rattle.reads.specs.Parameters.{readParameters};
+ghost use Rattle.reads.specs.WorkingParameters.{readParameters};
 ghost use Rattle.reads.specs.Names.{localAt, alertContext, infoContext, laterContext, pairContext, resourceContext, areaContext, contextOf};
 ghost use Rattle.reads.specs.WorkingSteps.{eventStep, parameterRow, audioOf, audioStep, english, isNothing};
 

@@ -17,7 +17,7 @@ use Rattle.octets.proofs.Tests.{and-left, either-way}
 use Rattle.markup.specs.Tree.{Forest}
 use Rattle.values.specs.Value.{valueAt}
 use Rattle.values.proofs.Steps.{value-past}
-use Rattle.reads.specs.Parameters.{ReadParameter, exactly, readParameters, parameterCount, isOf}
+use Rattle.reads.specs.WorkingParameters.{ReadParameter, exactly, readParameters, parameterCount, isOf}
 use Rattle.reads.specs.WorkingLeaves.{noLeaf, found, soundOf, noInfo}
 use Rattle.reads.proofs.ParameterRows.{row-step, rows-long}
 use Rattle.reads.specs.WorkingSteps.{says, eventStep, parameterStep, audioOf, isAudio, audioStep}

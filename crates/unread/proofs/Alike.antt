@@ -18,7 +18,7 @@ use Rattle.reads.specs.WorkingSteps.{says, eventStep, rowStep, parameterStep, l
 use Rattle.reads.specs.declared.Leaf.{Leaf}
 use Rattle.reads.specs.declared.Events.{Events}
 use Rattle.reads.specs.declared.Parameters.{Parameters}
-use Rattle.reads.specs.Parameters.{ReadParameter, exactly, readParameters, parameterCount, isOf}
+use Rattle.reads.specs.WorkingParameters.{ReadParameter, exactly, readParameters, parameterCount, isOf}
 use Rattle.reads.proofs.ParameterRows.{row-step, rows-long}
 use Rattle.reads.specs.declared.Locations.{Locations}
 use Rattle.reads.specs.declared.Audio.{Audio}

@@ -11,7 +11,7 @@ use Rattle.octets.specs.Bytes.{pick, same}
 use Rattle.octets.specs.Text.{bytes}
 use Rattle.values.specs.Value.{valueAt, small}
 use Rattle.words.specs.WorkingWords.{wordsOf}
-use Rattle.reads.specs.Parameters.{broadcastText, readParameters}
+use Rattle.reads.specs.WorkingParameters.{broadcastText, readParameters}
 use Rattle.reads.specs.WorkingSteps.{parameterRow}
 use Rattle.reads.proofs.ParameterRows.{exact-row, behind-exact, broadcast-row}
 use Rattle.reads.proofs.parameter_row.Statement.{statement}
