@@ -17,14 +17,14 @@ use Rattle.outputs.specs.WorkingOutputs.{roomyText, textRefused}
 use Rattle.outputs.specs.declared.TextAudio.{TextAudio}
 use Rattle.outputs.proofs.Fits.{uri-fits}
 use Rattle.canadian.specs.WorkingCanadian.{lacksWords, broadcastIn, descriptionIn, canadianGiven, wordsGiven, canadianBy, canadianOf}
-use Rattle.canadian.proofs.Texts.{text-short}
+use Rattle.canadian.proofs.Texts.{text-bytes}
 
 pub record Small (r : TextAudio) : Type 0 where
   pub number : r .number ≤ 18
   pub field : r .field ≤ 7
   pub audio : r .audio ≤ 3
   pub uri : r .uri ≤ 1024
-  pub text : r .text ≤ 1800
+  pub text : r .text ≤ 7200
 
 alone-small : (n f : ℕ) → n ≤ 18 → f ≤ 7 → Small (textAnswerOf (textRefused n f))
 unfolding textAnswerOf
@@ -51,8 +51,8 @@ module _ (s : List ℕ) (t u : ℕ) where
     number = omega arith;
     field = field-small s;
     audio = audio-number s;
-    uri = uri-fits s (infoIn (messageSays s) .audio) (audio-fits s);
-    text = text-short _ _ _;
+    uri = uri-fits s (infoIn (messageSays s) .audio) (audio-fits s) .short;
+    text = text-bytes _ _ _;
   }
 
   pub canadian-small : Small (textAnswerOf (canadianOf s t u))

@@ -1,21 +1,19 @@
 -- The outcome of the Canadian mode, by what was found: a message s, and outputs of t and u bytes.
 --     short, refused, told      an output short; a number of the message; what it gives
 --     no-words, some-words      of a message that passed 4 to 9, by how long its text is
-use Prim.Native.Nat.{ℕ, _≤_}
+use Prim.Native.Nat.{ℕ}
 use mathlib.Core.Path.{_≡_, refl, sym, ap, _∙_}
-use mathlib.Core.Bool.{Bool, true, false}
+use mathlib.Core.Bool.{true, false}
 use mathlib.Core.List.{List}
 use borrow.Author.Tests.{ne-eqb, eq-eqb}
 use lib.ListN.{length}
 use lib.Seq.{sets}
-use lib.Dec.{eqb}
-use Rattle.octets.specs.Bytes.{pick}
-use Rattle.octets.proofs.Tests.{either-way}
+use Rattle.characters.specs.Utf8.{utf8}
 use Rattle.message.specs.WorkingMessage.{messageSays, infoIn}
 use Rattle.message.specs.declared.Message.{Message}
 use Rattle.leaves.proofs.Fits.{audio-fits}
 use Rattle.outputs.specs.Outputs.{TextOutcome, textAnswerOf}
-use Rattle.outputs.specs.WorkingOutputs.{roomyText, uriIn, textRefused}
+use Rattle.outputs.specs.WorkingOutputs.{roomyText, uriIn, UriFits, textRefused}
 use Rattle.outputs.specs.declared.TextAudio.{TextAudio}
 use Rattle.outputs.proofs.Fits.{uri-fits}
 use Rattle.canadian.specs.WorkingCanadian.{textGiven, broadcastIn, descriptionIn, instructionIn, canadianGiven, wordsGiven, canadianBy, canadianOf}
@@ -48,7 +46,7 @@ module _ (s : List ℕ) (t u : ℕ) where
     told e = outcome ∙ rw (eq-eqb (m .number) 0 e)
 
     -- the uri that it gives fits
-    pub fits : length (uriIn s (infoIn m .audio)) ≤ 1024
+    pub fits : UriFits (uriIn s (infoIn m .audio))
     fits = rw says (uri-fits s (infoIn (messageSays s) .audio) (audio-fits s))
 
 -- ---- what is written
@@ -57,7 +55,7 @@ module _ (s : List ℕ) (m : Message) (text : List ℕ) {x : List ℕ} {n : ℕ}
     (put : Puts text (textGiven (broadcastIn s m) (descriptionIn s m) (instructionIn s m)) x n) where
   -- the text is empty, and 18 is answered
   pub no-words : {r : TextAudio} {uri : List ℕ} → n ≡ 0 → r ≡ textAnswerOf (textRefused 18 (m .field)) → Answers (wordsGiven s m) r text uri x uri
-  unfolding wordsGiven textGiven
+  unfolding wordsGiven textGiven utf8
   no-words h answer =
       let e = long-none (broadcastIn s m) (descriptionIn s m) (instructionIn s m) (sym (put .0) ∙ h) in
       rw e (answer, (rw e at (put .1), refl))

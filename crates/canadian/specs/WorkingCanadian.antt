@@ -4,6 +4,7 @@ use mathlib.Core.Bool.{Bool, _&&_}
 use mathlib.Core.List.{List, []}
 use lib.Dec.{eqb}
 use Rattle.octets.specs.Bytes.{pick}
+use Rattle.characters.specs.Utf8.{utf8}
 use Rattle.values.specs.Value.{valueAt}
 use Rattle.reads.specs.WorkingLeaves.{descriptionLeaf, instructionLeaf, broadcastLeaf}
 use Rattle.message.specs.WorkingMessage.{messageSays, infoIn}
@@ -31,10 +32,10 @@ descriptionIn s m = valueAt s (descriptionLeaf (infoIn m) .at)
 abbrev pub instructionIn : List ℕ → Message → List ℕ
 instructionIn s m = valueAt s (instructionLeaf (infoIn m) .at)
 
--- text and audio of a message that is refused by none
+-- text, in UTF-8, and audio of a message that is refused by none
 unfoldable pub canadianGiven : List ℕ → Message → TextGiven
 canadianGiven s m = record {
-  text = canadianText (broadcastIn s m) (descriptionIn s m) (instructionIn s m);
+  text = utf8 (canadianText (broadcastIn s m) (descriptionIn s m) (instructionIn s m));
   audio = infoIn m .audio .number;
   uri = uriIn s (infoIn m .audio);
 }

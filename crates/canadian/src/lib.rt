@@ -5,16 +5,14 @@ ghost use mathlib.Core.Path.{_≡_};
 ghost use Prim.Native.Nat.{_≤_};
 ghost use lib.ListN.{length};
 ghost use lib.Seq.{sets};
+ghost use Rattle.characters.specs.Utf8.{utf8};
 ghost use Rattle.values.specs.Value.{valueAt};
 ghost use Rattle.message.specs.WorkingMessage.{infoIn};
 ghost use Rattle.outputs.specs.Outputs.{textAnswerOf};
-ghost use Rattle.outputs.specs.WorkingOutputs.{uriIn};
+ghost use Rattle.outputs.specs.WorkingOutputs.{uriIn, UriFits};
 ghost use Rattle.canadian.specs.WorkingCanadian.{textGiven, wordsGiven, canadianOf};
 
-// The characters that a text may have.
-const MOST: usize = 1800;
-
-// Puts the text at the start of `out`, and says how long it is. No value is tested for being empty: what was put of it tells.
+// Puts the text at the start of `out`, and says how many bytes it has. No value is tested for being empty: what was put of it tells.
 fn put_text(
     s: &[u8],
     broadcast: usize,
@@ -22,26 +20,27 @@ fn put_text(
     instruction: usize,
     out: &mut [u8],
 ) -> usize
-    requires { ⌜ 1800 ≤ length (now out) ⌝ }
-    ensures { λ r. ⌜ r ≡ length (textGiven (valueAt (now (s .entry)) broadcast) (valueAt (now (s .entry)) description) (valueAt (now (s .entry)) instruction)) ⌝ }
-    ensures { λ _. ⌜ now (out .exit) ≡ sets (now (out .entry)) 0 (textGiven (valueAt (now (s .entry)) broadcast) (valueAt (now (s .entry)) description) (valueAt (now (s .entry)) instruction)) ⌝ }
+    requires { ⌜ 7200 ≤ length (now out) ⌝ }
+    ensures { λ r. ⌜ r ≡ length (utf8 (textGiven (valueAt (now (s .entry)) broadcast) (valueAt (now (s .entry)) description) (valueAt (now (s .entry)) instruction))) ⌝ }
+    ensures { λ _. ⌜ now (out .exit) ≡ sets (now (out .entry)) 0 (utf8 (textGiven (valueAt (now (s .entry)) broadcast) (valueAt (now (s .entry)) description) (valueAt (now (s .entry)) instruction))) ⌝ }
 {
-    let whole = values::copy(s, broadcast, MOST, out, 0);
-    if whole != 0 {
-        return whole;
+    let whole = wording::put_first(s, broadcast, out);
+    if whole.count != 0 {
+        return whole.at;
     }
-    let n = values::copy(s, description, MOST, out, 0);
-    if n == 0 {
+    let n = wording::put_first(s, description, out);
+    if n.count == 0 {
         return 0;
     }
-    wording::put_plain(s, instruction, out, n)
+    let r = wording::put_plain(s, instruction, out, n);
+    r.at
 }
 
 // Writes what a message gives that passed 4 to 9. Where it has no text nothing is written, and the number is 18.
 fn write(s: &[u8], m: Message, text: &mut [u8], uri: &mut [u8]) -> TextAudio
-    requires { ⌜ 1800 ≤ length (now text) ⌝ }
+    requires { ⌜ 7200 ≤ length (now text) ⌝ }
     requires { ⌜ 1024 ≤ length (now uri) ⌝ }
-    requires { ⌜ length (uriIn (now s) (infoIn m .audio)) ≤ 1024 ⌝ }
+    requires { ⌜ UriFits (uriIn (now s) (infoIn m .audio)) ⌝ }
     ensures { λ r. ⌜ r ≡ textAnswerOf (wordsGiven (now (s .entry)) m) ⌝ }
     ensures { λ _. ⌜ now (text .exit) ≡ sets (now (text .entry)) 0 (wordsGiven (now (s .entry)) m .given .text) ⌝ }
     ensures { λ _. ⌜ now (uri .exit) ≡ sets (now (uri .entry)) 0 (wordsGiven (now (s .entry)) m .given .uri) ⌝ }

@@ -147,7 +147,7 @@ pub(crate) fn canadian(asked: &[u8], out: &mut [u8]) -> usize {
 
 pub(crate) fn program(asked: &[u8], out: &mut [u8]) -> usize {
     let mut message = [0u8; ROOM];
-    let mut printed = [0u8; 4096];
+    let mut printed = [0u8; 8704];
     let m = crate::lines::unhex(asked, &mut message);
     if !m.ok {
         return crate::lines::put(out, 0, b"?");

@@ -12,12 +12,13 @@ use reads::Parameters;
 // The longest message that is read, which is longer than a legal one.
 const LONGEST: usize = 32770;
 
-// A colon and the first 40 characters of the value at `place`, in hexadecimal.
+// A colon and the first 40 characters of the value at `place`, in UTF-8, in hexadecimal.
 fn put_value(s: &[u8], place: usize, out: &mut [u8], at: usize) -> usize {
-    let mut value = [0u8; 40];
-    let n = values::copy(s, place, 40, &mut value, 0);
+    let mut value = [0u8; 160];
+    let first = values::lead(s, place);
+    let spelled = values::spell(s, first, 40, &mut value, 0);
     let end = crate::lines::put(out, at, b":");
-    crate::lines::put_hex(out, end, crate::lines::front(&value, n))
+    crate::lines::put_hex(out, end, crate::lines::front(&value, spelled.end))
 }
 
 fn put_leaf(s: &[u8], l: Leaf, out: &mut [u8], at: usize) -> usize {

@@ -2,6 +2,7 @@ pub mod Calendar
 pub mod Signed
 pub mod Pieces
 pub mod Times
+pub mod Kept
 pub mod Periods
 pub mod Stamps
 pub mod Dates

@@ -14,7 +14,7 @@ use Rattle.parts.proofs.Has.{has}
 use Rattle.header.proofs.Lengths.{length-header}
 use Rattle.sentence.specs.Words.{sentenceOf}
 use Rattle.sentence.proofs.Lengths.{sentence-le}
-use Rattle.wording.proofs.Texts.{text-le}
+use Rattle.wording.proofs.Texts.{text-bytes}
 use Rattle.message.specs.WorkingMessage.{messageSays}
 use Rattle.leaves.proofs.Fits.{audio-number}
 use Rattle.judgement.specs.WorkingJudged.{judgedOf}
@@ -32,7 +32,7 @@ pub record Small (c : Converted) : Type 0 where
   pub header : c .header ≤ 252
   pub audio : c .audio ≤ 3
   pub uri : c .uri ≤ 1024
-  pub text : c .text ≤ 1800
+  pub text : c .text ≤ 7200
 
 alone-small : (n f : ℕ) → n ≤ 14 → f ≤ 7 → Small (answerOf (record { number = n; field = f; given = nothing }))
 unfolding answerOf
@@ -73,8 +73,8 @@ module _ (s station : List ℕ) (h t u : ℕ) where
         field = field-small s;
         header = omega (arith, length-header (record { body = j .body; station = station }) (r .body) (r .named), b .few);
         audio = rw (message-kept s (messageSays s)) (audio-number s);
-        uri = r .fits;
-        text = text-le (sentenceOf (j .body)) _ _ _ _ (omega (arith, sentence-le (j .body) (b .three) (b .few)));
+        uri = r .fits .short;
+        text = text-bytes (sentenceOf (j .body)) _ _ _ _ (omega (arith, sentence-le (j .body) (b .three) (b .few)));
       }
 
   pub convert-small : Small (answerOf (convertOf s station h t u))

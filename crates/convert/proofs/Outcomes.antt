@@ -39,7 +39,7 @@ untouched o r header text uri n f e h = record {
 
 -- ---- by the numbers
 
-pub rooms : (h t u : ℕ) → roomy h t u ≡ true → (252 ≤ h) × (1800 ≤ t) × (1024 ≤ u)
+pub rooms : (h t u : ℕ) → roomy h t u ≡ true → (252 ≤ h) × (7200 ≤ t) × (1024 ≤ u)
 unfolding roomy
 rooms h t u r = let o = room-of t u (and-right (leb 252 h) _ r) in (leb-true 252 h (and-left (leb 252 h) _ r), o .0, o .1)
 

@@ -1,12 +1,12 @@
 -- The conversion as one definition, by which the code is specified: everything that it answers and writes for a message, a station and outputs of given lengths.
-use Prim.Native.Nat.{ℕ, _≤_}
+use Prim.Native.Nat.{ℕ}
 use mathlib.Core.Path.{_≡_}
 use mathlib.Core.Bool.{Bool, true, _&&_, not}
 use mathlib.Core.List.{List}
-use lib.ListN.{length}
 use lib.Dec.{eqb, leb}
 use Rattle.octets.specs.Bytes.{pick}
 use Rattle.octets.specs.Text.{bytes}
+use Rattle.characters.specs.Utf8.{utf8}
 use Rattle.values.specs.Value.{valueAt}
 use Rattle.parts.specs.Parts.{bodyOk, stationOk}
 use Rattle.parts.specs.declared.Body.{Body}
@@ -19,7 +19,7 @@ use Rattle.wording.specs.Text.{textOf}
 use Rattle.message.specs.WorkingMessage.{infoIn}
 use Rattle.judgement.specs.WorkingJudged.{judgedOf}
 use Rattle.judgement.specs.declared.Judged.{Judged}
-use Rattle.outputs.specs.WorkingOutputs.{roomyText, uriIn}
+use Rattle.outputs.specs.WorkingOutputs.{roomyText, uriIn, UriFits}
 use Rattle.convert.specs.Convert.{Given, nothing, Outcome}
 
 -- ---- what an alert gives
@@ -38,11 +38,11 @@ textIn s j =
 abbrev pub carryIn : List ℕ → Info → Bool
 carryIn s i = says s (mustCarryLeaf i .at) (bytes "True")
 
--- a message that answers 0 and is not quiet
+-- a message that answers 0 and is not quiet; the text in UTF-8
 unfoldable pub alertGiven : List ℕ → List ℕ → Judged → Given
 alertGiven s station j = record {
   header = stationHeader station (j .body);
-  text = textIn s j;
+  text = utf8 (textIn s j);
   audio = infoIn (j .message) .audio .number;
   uri = uriIn s (infoIn (j .message) .audio);
   carry = carryIn s (infoIn (j .message));
@@ -54,7 +54,7 @@ alertGiven s station j = record {
 abbrev pub refusedWith : ℕ → Outcome
 refusedWith number = record { number = number; field = 0; given = nothing }
 
--- lent output short: header 252, text 1,800, uri 1,024
+-- lent output short: header 252, text 7,200, uri 1,024
 unfoldable pub roomy : ℕ → ℕ → ℕ → Bool
 roomy header text uri = leb 252 header && roomyText text uri
 
@@ -78,4 +78,4 @@ pub record Ready (s station : List ℕ) (j : Judged) (header text uri : ℕ) : T
   pub room : roomy header text uri ≡ true
   pub named : stationOk station ≡ true
   pub body : bodyOk (j .body) ≡ true
-  pub fits : length (uriIn s (infoIn (j .message) .audio)) ≤ 1024
+  pub fits : UriFits (uriIn s (infoIn (j .message) .audio))

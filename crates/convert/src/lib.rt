@@ -7,6 +7,7 @@ ghost use mathlib.Core.Bool.{true};
 ghost use Prim.Native.Nat.{_≤_};
 ghost use lib.ListN.{length};
 ghost use lib.Seq.{sets};
+ghost use Rattle.characters.specs.Utf8.{utf8};
 ghost use Rattle.parts.specs.Parts.{bodyOk, stationOk};
 ghost use Rattle.convert.specs.WorkingConvert.{Ready, stationHeader, textIn, alertGiven, roomy, convertOf};
 ghost use Rattle.convert.specs.Convert.{nothing, answerOf};
@@ -66,10 +67,10 @@ fn put_header(station: &[u8], b: Body, out: &mut [u8]) -> usize
 }
 
 fn put_text(s: &[u8], j: Judged, out: &mut [u8]) -> usize
-    requires { ⌜ 1800 ≤ length (now out) ⌝ }
+    requires { ⌜ 7200 ≤ length (now out) ⌝ }
     requires { ⌜ bodyOk (j .body) ≡ true ⌝ }
-    ensures { λ r. ⌜ r ≡ length (textIn (now (s .entry)) j) ⌝ }
-    ensures { λ _. ⌜ now (out .exit) ≡ sets (now (out .entry)) 0 (textIn (now (s .entry)) j) ⌝ }
+    ensures { λ r. ⌜ r ≡ length (utf8 (textIn (now (s .entry)) j)) ⌝ }
+    ensures { λ _. ⌜ now (out .exit) ≡ sets (now (out .entry)) 0 (utf8 (textIn (now (s .entry)) j)) ⌝ }
 {
     let body = j.body;
     let m = j.message;

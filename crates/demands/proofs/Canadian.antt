@@ -1,14 +1,14 @@
 -- Demands 1 and 2 of the Canadian mode: a message s, and outputs of t and u bytes.
 --     canadian-numbered, canadian-field, canadian-refused    its number is the lowest of its own that applies, and a refusal gives nothing
---     canadian-gives-all, canadian-short                     the text and audio that the message says, of at most 1,800 characters
-use Prim.Native.Nat.{ℕ, _≤_}
+--     canadian-gives-all, canadian-short                     the text and audio that the message says, in UTF-8 of at most 1,800 characters
+use Prim.Native.Nat.{ℕ}
 use mathlib.Core.Path.{_≡_, refl, sym, ap, _∙_}
 use mathlib.Core.Bool.{Bool, true, false, _&&_, not}
 use mathlib.Core.List.{List, [], _∷_, _++_, map}
 use native.Mathlib.Omega.{arith}
 use borrow.Author.Tests.{eqb-true, not-true}
 use lib.Dec.{eqb}
-use lib.ListN.{length, drop}
+use lib.ListN.{drop}
 use Rattle.octets.specs.Bytes.{pick, between, every, same, isCapital}
 use Rattle.octets.specs.Text.{bytes}
 use Rattle.octets.proofs.Tests.{and-right}
@@ -18,19 +18,22 @@ use Rattle.told.specs.Values.{isNone, firstValue, is, Pair, valuesWhere}
 use Rattle.told.proofs.Infos.{valuesUnder}
 use Rattle.message.specs.WorkingMessage.{judged, messageSays}
 use Rattle.message.specs.declared.Message.{Message}
+use Rattle.values.proofs.Legal.{value-legal}
 use Rattle.wording.specs.Text.{empty}
-use Rattle.outputs.specs.Outputs.{noText, TextOutcome, textAnswerOf}
+use Rattle.outputs.specs.Outputs.{noText, TextOutcome}
 use Rattle.outputs.specs.WorkingOutputs.{roomyText, uriIn}
 use Rattle.canadian.specs.WorkingCanadian.{lacksWords, broadcastIn, descriptionIn, canadianGiven, wordsGiven, canadianBy, canadianOf}
-use Rattle.canadian.proofs.Answers.{outcome-holds, canadian-small, canadian-gives}
+use Rattle.canadian.proofs.Texts.{text-short}
+use Rattle.canadian.proofs.Answers.{outcome-holds, canadian-gives}
 use Rattle.canadian.proofs.Answers as canadian
 use Rattle.demands.specs.Calls.{library}
-use Rattle.demands.specs.Message.{isBroadcast, broadcastValues, description, wholeInCanada}
-use Rattle.demands.specs.Numbers.{NumberRow, row, Numbered, lowestIn, noneApplies, fieldBeside, messageRows, canadianRows}
+use Rattle.demands.specs.Message.{isBroadcast, broadcastValues, description, Spelt, wholeInCanada}
+use Rattle.demands.specs.Numbers.{row, Numbered, lowestIn, noneApplies, fieldBeside, messageRows, canadianRows}
 use Rattle.demands.proofs.Rows.{held, at-pick, lowest-append, numbered}
 use Rattle.demands.proofs.Fields.{Faultless}
 use Rattle.demands.proofs.Alerts.{said, message-number, message-field, message-said, message-faultless, no-field}
 use Rattle.demands.proofs.Infos.{told}
+use Rattle.demands.proofs.Spellings.{spelt, nothing-spelt, canadian-legal}
 
 -- ---- 18
 
@@ -106,6 +109,8 @@ module _ (s : List ℕ) (t u : ℕ) where
       g .1 ∙ ap (canadianGiven s) (message-said s (g .0))
       ∙ rw (k .parameters .each 3 (omega arith) .value, broadcasts-read _, k .description, k .instruction, k .audio .uri, k .audio .number)
 
-  pub canadian-short : length (library .canadian s t u .given .text) ≤ 1800
-  unfolding textAnswerOf
-  canadian-short = canadian-small s t u .text
+  pub canadian-short : Spelt (library .canadian s t u .given .text)
+  unfolding canadianGiven
+  canadian-short =
+      outcome-holds s t u (λ (o : TextOutcome). Spelt (o .given .text)) nothing-spelt (λ z. nothing-spelt) (λ z. nothing-spelt)
+      (λ z. spelt _ (canadian-legal _ _ _ (value-legal s _) (value-legal s _) (value-legal s _)) (text-short _ _ _))

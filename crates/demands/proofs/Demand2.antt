@@ -1,5 +1,5 @@
 -- Demand 2: a message s, a station, and outputs of h, t and u bytes.
---     demand-2     the header is the one of the parts that the message says, the text never passes 1,800 characters, and headers read and write back
+--     demand-2     the header is the one of the parts that the message says, the text is UTF-8 of at most 1,800 characters, and headers read and write back
 --     on-board     a header on a board is the conversion's without its station (of demand 3)
 use Prim.Native.Nat.{ℕ, _≤_}
 use mathlib.Core.Path.{_≡_, refl, sym, ap, ap₂, _∙_, subst}
@@ -21,21 +21,25 @@ use Rattle.header.proofs.WriteThenRead.{read-header-bytes, read-written-header}
 use Rattle.header.proofs.ReadThenWrite.{write-read-header}
 use Rattle.sentence.specs.Words.{sentenceOf}
 use Rattle.sentence.proofs.Lengths.{sentence-le}
+use Rattle.sentence.proofs.Plains.{sentence-legal}
+use Rattle.values.proofs.Legal.{value-legal}
 use Rattle.wording.proofs.Texts.{text-le}
+use Rattle.wording.proofs.Legals.{all-legal}
 use Rattle.judgement.specs.WorkingJudged.{judgedOf}
 use Rattle.judgement.proofs.Bodies.{body-ok}
 use Rattle.records.specs.Record.{pad}
 use Rattle.convert.specs.Convert.{Given, nothing, Outcome}
 use Rattle.outputs.specs.WorkingOutputs.{roomyText}
-use Rattle.convert.specs.WorkingConvert.{alertGiven, roomy, outcomeOf, convertOf}
+use Rattle.convert.specs.WorkingConvert.{textIn, alertGiven, roomy, outcomeOf, convertOf}
 use Rattle.demands.specs.Calls.{library}
-use Rattle.demands.specs.Message.{isQuiet, headerBody, headerParts, wholeOf}
+use Rattle.demands.specs.Message.{isQuiet, headerBody, headerParts, Spelt, wholeOf}
 use Rattle.demands.specs.Board.{ownHeader}
 use Rattle.demands.specs.Numbers.{noneApplies, conversionRows}
 use Rattle.demands.specs.Demands.{Demand2}
 use Rattle.demands.proofs.Rows.{each-off}
 use Rattle.demands.proofs.Messages.{quiet-is, body-is, whole-is}
 use Rattle.demands.proofs.Conversions.{convert-holds, convert-numbered}
+use Rattle.demands.proofs.Spellings.{spelt, nothing-spelt}
 use Rattle.demands.proofs.Canadian.{canadian-gives-all, canadian-short}
 
 -- ---- a message that answers 0 and is not quiet
@@ -44,28 +48,33 @@ module _ (s : List ℕ) (zero : judgedOf s .number ≡ 0) (loud : isQuiet s ≡ 
   body-sound : parts.bodyOk (headerBody s) ≡ true
   body-sound = subst (λ (b : Body). parts.bodyOk b ≡ true) (body-is s zero loud) (body-ok s zero (quiet-is s zero ∙ loud))
 
-  whole-short : (station : List ℕ) → length (wholeOf s station .text) ≤ 1800
-  unfolding wholeOf
-  whole-short station =
-      let k = has (headerBody s) body-sound in
-      text-le (sentenceOf (headerBody s)) _ _ _ _ (omega (arith, sentence-le (headerBody s) (k .three) (k .few)))
+-- ---- the text
+
+module _ (s station : List ℕ) (zero : judgedOf s .number ≡ 0) (quiet : judgedOf s .quiet ≡ false) where
+  alert-spelt : Spelt (alertGiven s station (judgedOf s) .text)
+  unfolding alertGiven textIn
+  alert-spelt =
+      let body = judgedOf s .body in
+      let k = body-ok s zero quiet in
+      let h = has body k in
+      spelt _ (all-legal (sentenceOf body) _ _ _ _ (sentence-legal body k) (value-legal s _) (value-legal s _) (value-legal s _) (value-legal s _))
+      (text-le (sentenceOf body) _ _ _ _ (omega (arith, sentence-le body (h .three) (h .few))))
 
 -- ---- a conversion
 
 module _ (s station : List ℕ) (h t u : ℕ) where
-  text-short : length (library .conversion s station h t u .given .text) ≤ 1800
+  text-short : Spelt (library .conversion s station h t u .given .text)
   unfolding outcomeOf
   text-short =
       let j = judgedOf s in
-      convert-holds s station h t u (λ (o : Outcome). length (o .given .text) ≤ 1800) (omega arith) (omega arith)
-      (either-way (λ (g : Given). length (g .text) ≤ 1800) (eqb (j .number) 0 && not (j .quiet)) (alertGiven s station j) nothing loud (λ _. omega arith))
+      convert-holds s station h t u (λ (o : Outcome). Spelt (o .given .text)) nothing-spelt nothing-spelt
+      (either-way (λ (g : Given). Spelt (g .text)) (eqb (j .number) 0 && not (j .quiet)) (alertGiven s station j) nothing loud (λ _. nothing-spelt))
     where
-      loud : (eqb (judgedOf s .number) 0 && not (judgedOf s .quiet)) ≡ true → length (alertGiven s station (judgedOf s) .text) ≤ 1800
+      loud : (eqb (judgedOf s .number) 0 && not (judgedOf s .quiet)) ≡ true → Spelt (alertGiven s station (judgedOf s) .text)
       loud e =
           let j = judgedOf s in
-          let z = eqb-true (j .number) 0 (and-left (eqb (j .number) 0) (not (j .quiet)) e) in
-          let q : isQuiet s ≡ false = sym (quiet-is s z) ∙ not-true (j .quiet) (and-right (eqb (j .number) 0) (not (j .quiet)) e) in
-          rw (whole-is s z station q) (whole-short s z q station)
+          alert-spelt s station (eqb-true (j .number) 0 (and-left (eqb (j .number) 0) (not (j .quiet)) e))
+          (not-true (j .quiet) (and-right (eqb (j .number) 0) (not (j .quiet)) e))
 
   module _ (none : noneApplies (conversionRows s station h t u) ≡ true) where
     record Passed : Type 0 where

@@ -6,6 +6,7 @@ pub mod Alerts
 pub mod Infos
 pub mod Messages
 pub mod Conversions
+pub mod Spellings
 pub mod Canadian
 pub mod Demand2
 pub mod Members

@@ -20,7 +20,7 @@ use Rattle.demands.proofs.Opens.{computing}
 
 -- ---- conversions
 
-pub sample-taken : noneApplies (conversionRows sample bench 252 1800 1024) ≡ true
+pub sample-taken : noneApplies (conversionRows sample bench 252 7200 1024) ≡ true
 unfolding computing
 sample-taken = refl
 
@@ -44,13 +44,13 @@ unfolding computing
 sample-whole = refl
 
 -- the program's lines
-pub sample-printed : printed (library .conversion sample bench 252 1800 1024) ≡
+pub sample-printed : printed (library .conversion sample bench 252 7200 1024) ≡
     bytes "number 0 field 0\nheader ZCZC-CIV-CEM-024031+0045-0951800-BENCH/01-\naudio none\ncarry no\ntext " ++ (sampleText ++ bytes "\n")
 unfolding computing
 sample-printed = refl
 
 -- in the Canadian mode
-pub sample-taken-in-canada : noneApplies (canadianRows sample 1800 1024) ≡ true
+pub sample-taken-in-canada : noneApplies (canadianRows sample 7200 1024) ≡ true
 unfolding computing
 sample-taken-in-canada = refl
 
@@ -58,7 +58,7 @@ pub sample-in-canada : wholeInCanada sample ≡ record { text = bytes "Water mai
 unfolding computing
 sample-in-canada = refl
 
-pub other-taken : noneApplies (conversionRows other bench 252 1800 1024) ≡ true
+pub other-taken : noneApplies (conversionRows other bench 252 7200 1024) ≡ true
 unfolding computing
 other-taken = refl
 

@@ -45,8 +45,8 @@ other-some = rw other-header refl
 
 pub always-refuses-rejected : (number : ℕ) → (number ≡ 0 → ⊥) → (Demand1 (alwaysRefuses number) → ⊥) × (Demand2 (alwaysRefuses number) → ⊥)
 always-refuses-rejected number refuses = (
-  λ d. refuses (d .convert-numbered sample bench 252 1800 1024 .zero-exactly .1 sample-taken),
-  λ d. true≢false (ap (λ (g : Given). isNone (g .header)) (d .gives-all sample bench 252 1800 1024 sample-taken sample-loud) ∙ sample-some),
+  λ d. refuses (d .convert-numbered sample bench 252 7200 1024 .zero-exactly .1 sample-taken),
+  λ d. true≢false (ap (λ (g : Given). isNone (g .header)) (d .gives-all sample bench 252 7200 1024 sample-taken sample-loud) ∙ sample-some),
 )
 
 text-some : isNone (wholeInCanada sample .text) ≡ false
@@ -55,8 +55,8 @@ text-some = rw (ap (λ (g : TextGiven). g .text) sample-in-canada) refl
 
 pub refuses-in-canada-rejected : (number : ℕ) → (number ≡ 0 → ⊥) → (Demand1 (refusesInCanada number) → ⊥) × (Demand2 (refusesInCanada number) → ⊥)
 refuses-in-canada-rejected number refuses = (
-  λ d. refuses (d .canadian-numbered sample 1800 1024 .zero-exactly .1 sample-taken-in-canada),
-  λ d. true≢false (ap (λ (g : TextGiven). isNone (g .text)) (d .canadian-gives-all sample 1800 1024 sample-taken-in-canada) ∙ text-some),
+  λ d. refuses (d .canadian-numbered sample 7200 1024 .zero-exactly .1 sample-taken-in-canada),
+  λ d. true≢false (ap (λ (g : TextGiven). isNone (g .text)) (d .canadian-gives-all sample 7200 1024 sample-taken-in-canada) ∙ text-some),
 )
 
 -- what is given in place of nothing, where the whole has a header, is the whole
@@ -66,10 +66,10 @@ whole-given false g w some e = e
 
 -- the one that is given for every message is then that of the message m
 one-is : (one : List ℕ → Given) → Demand2 (oneHeader one) → (m : List ℕ) →
-    noneApplies (conversionRows m bench 252 1800 1024) ≡ true → isQuiet m ≡ false → isNone (wholeOf m bench .header) ≡ false → one bench ≡ wholeOf m bench
+    noneApplies (conversionRows m bench 252 7200 1024) ≡ true → isQuiet m ≡ false → isNone (wholeOf m bench .header) ≡ false → one bench ≡ wholeOf m bench
 one-is one d m taken loud some =
-    whole-given (isNone (library .conversion m bench 252 1800 1024 .given .header)) (one bench) (wholeOf m bench) some
-    (d .gives-all m bench 252 1800 1024 taken loud)
+    whole-given (isNone (library .conversion m bench 252 7200 1024 .given .header)) (one bench) (wholeOf m bench) some
+    (d .gives-all m bench 252 7200 1024 taken loud)
 
 events-differ : bytes "ZCZC-CIV-CEM-024031+0045-0951800-BENCH/01-" ≡ bytes "ZCZC-CIV-TOR-024031+0045-0951800-BENCH/01-" → ⊥
 unfolding bytes

@@ -91,9 +91,9 @@ pub host-canadian-is-canadian : (κs : Lifetimes 3) (a x : Slices 3) (r : ℕ) �
     host-canadian.Learnt κs a r x → (r ≡ packedText (textAnswerOf (inCanada a))) × FilledInCanada a x
 host-canadian-is-canadian κs a x r p = p
 
--- the lines that the program prints: none where less room is lent than 4,096 bytes
+-- the lines that the program prints: none where less room is lent than 8,704 bytes
 abbrev linesOf : Slices 2 → List ℕ
-linesOf a = pick (ltb (length (now (a .1 .0))) 4096) [] (printed (library .conversion (now (a .0)) (bytes "BENCH/01") 252 1800 1024))
+linesOf a = pick (ltb (length (now (a .1 .0))) 8704) [] (printed (library .conversion (now (a .0)) (bytes "BENCH/01") 252 7200 1024))
 
 pub program-is-conversion : (κs : Lifetimes 2) (a x : Slices 2) (r : ℕ) →
     program.Learnt κs a r x → (r ≡ length (linesOf a)) × (now (x .1 .0) ≡ sets (now (a .1 .0)) 0 (linesOf a))

@@ -7,16 +7,14 @@ use mathlib.Core.List.{List, [], _∷_, _++_, map}
 use lib.ListN.{length, take, drop}
 use Rattle.parts.specs.Parts.{noBody, noStation}
 use Rattle.parts.specs.declared.Parts.{Parts}
-use Rattle.header.specs.declared.Read.{Read}
-use Rattle.header.specs.declared.Written.{Written}
 use Rattle.outputs.specs.Outputs.{noText}
 use Rattle.convert.specs.Convert.{nothing}
 use Rattle.records.specs.Record.{pad, aired}
-use Rattle.ledger.specs.Sorted.{In, Sorted, insert, insertAll}
+use Rattle.ledger.specs.Sorted.{In, insert, insertAll}
 use Rattle.board.specs.Rules.{boardOf}
 use Rattle.told.specs.Values.{firstValue}
-use Rattle.demands.specs.Calls.{Calls, Writing}
-use Rattle.demands.specs.Message.{isQuiet, headerParts, wholeOf, wholeInCanada}
+use Rattle.demands.specs.Calls.{Calls}
+use Rattle.demands.specs.Message.{isQuiet, headerParts, Spelt, wholeOf, wholeInCanada}
 use Rattle.demands.specs.Board.{ownHeader, messageRecords, dueHeaders, makesDue, firstIndex, rowOf}
 use Rattle.demands.specs.Numbers.{Numbered, noneApplies, fieldBeside, conversionRows, canadianRows, isBoard, emptiesIn, offerRows, handOutRows, listRows, readRows, writeRows}
 use Rattle.demands.specs.Runs.{Empty, afterOffers, NoneFull, Takes, CarriedBy, handOuts, BoardCall, handedOut, Once}
@@ -51,9 +49,9 @@ pub record Demand2 (c : Calls) : Type 0 where
   -- a quiet Cancel answers 0, with no header, text or audio
   pub quiet-gives-nothing : (s station : List ℕ) (h t u : ℕ) → noneApplies (conversionRows s station h t u) ≡ true → isQuiet s ≡ true →
       c .conversion s station h t u .given ≡ nothing
-  pub text-short : (s station : List ℕ) (h t u : ℕ) → length (c .conversion s station h t u .given .text) ≤ 1800
+  pub text-short : (s station : List ℕ) (h t u : ℕ) → Spelt (c .conversion s station h t u .given .text)
   pub canadian-gives-all : (s : List ℕ) (t u : ℕ) → noneApplies (canadianRows s t u) ≡ true → c .canadian s t u .given ≡ wholeInCanada s
-  pub canadian-short : (s : List ℕ) (t u : ℕ) → length (c .canadian s t u .given .text) ≤ 1800
+  pub canadian-short : (s : List ℕ) (t u : ℕ) → Spelt (c .canadian s t u .given .text)
   pub header-reads-back : (s station : List ℕ) (h t u : ℕ) → noneApplies (conversionRows s station h t u) ≡ true → isQuiet s ≡ false →
       c .reading (c .conversion s station h t u .given .header) ≡ record { number = 0; parts = headerParts s station }
   pub read-gives-back : (d : List ℕ) (p : Parts) → c .writing d p .answer .number ≡ 0 →

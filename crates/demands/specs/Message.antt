@@ -1,11 +1,15 @@
 -- A message on its tree, and what a conversion gives for it: the header's parts one by one, text, audio and must-carry. s is the message.
-use Prim.Native.Nat.{ℕ, _+_, _-_, min}
+use Prim.Native.Nat.{ℕ, _+_, _-_, _≤_, min}
 use Prim.Native.String.{String}
-use mathlib.Core.Bool.{Bool, true, false, _&&_, _||_, not}
+use mathlib.Core.Path.{_≡_}
+use mathlib.Core.Bool.{Bool, true, _&&_, _||_, not}
 use mathlib.Core.List.{List, [], _∷_, _++_, map}
 use lib.ListN.{length, take}
+use Rattle.octets.specs.Bytes.{every}
 use Rattle.octets.specs.Digits.{value}
 use Rattle.octets.specs.Text.{bytes}
+use Rattle.characters.specs.Utf8.{isLegal, utf8}
+use Rattle.characters.specs.Chars.{charsOf}
 use Rattle.clock.specs.Time.{timeOf, instantIn}
 use Rattle.clock.specs.Period.{periodOf}
 use Rattle.clock.specs.Stamp.{stampOf}
@@ -151,11 +155,18 @@ textInCanada s = canadianText (firstValue (broadcastValues s)) (description s) (
 abbrev pub mustCarry : List ℕ → Bool
 mustCarry s = is "True" (firstValue (parametersNamed "EAS-Must-Carry" s))
 
+-- a text as a call writes it: UTF-8 of characters that are legal in XML 1.0, at most 1,800 of them, and so at most 7,200 bytes
+pub record Spelt (t : List ℕ) : Type 0 where
+  pub whole : utf8 (charsOf t) ≡ t
+  pub legal : every isLegal (charsOf t) ≡ true
+  pub characters : length (charsOf t) ≤ 1800
+  pub size : length t ≤ 7200
+
 -- all that a message gives that answers 0 and is not quiet
 unfoldable pub wholeOf : List ℕ → List ℕ → Given
 wholeOf s station = record {
   header = headerBytes (headerParts s station);
-  text = alertText s;
+  text = utf8 (alertText s);
   audio = audioIn s (prefix s) (info s) .number;
   uri = audioIn s (prefix s) (info s) .uri;
   carry = mustCarry s;
@@ -164,7 +175,7 @@ wholeOf s station = record {
 -- all that it gives in the Canadian mode, where it answers 0: text and audio only
 unfoldable pub wholeInCanada : List ℕ → TextGiven
 wholeInCanada s = record {
-  text = textInCanada s;
+  text = utf8 (textInCanada s);
   audio = audioIn s (prefix s) (info s) .number;
   uri = audioIn s (prefix s) (info s) .uri;
 }

@@ -121,10 +121,10 @@ takenRows s = messageRows s ++ headerRows s
 abbrev pub isStation : List ℕ → Bool
 isStation t = every holds (eqb (length t) 8 ∷ every (λ b. every holds (between 32 126 b ∷ not (eqb b 45) ∷ not (eqb b 43) ∷ [])) t ∷ [])
 
--- 2 lent output short: header 252, text 1,800, uri 1,024; 3 station
+-- 2 lent output short: header 252, text 7,200, uri 1,024; 3 station
 abbrev pub conversionRows : List ℕ → List ℕ → ℕ → ℕ → ℕ → List NumberRow
 conversionRows s station header text uri =
-    row 2 (not (every holds (leb 252 header ∷ leb 1800 text ∷ leb 1024 uri ∷ [])))
+    row 2 (not (every holds (leb 252 header ∷ leb 7200 text ∷ leb 1024 uri ∷ [])))
     ∷ row 3 (not (isStation station))
     ∷ takenRows s
 
@@ -133,7 +133,7 @@ conversionRows s station header text uri =
 -- 2 asks the text and uri outputs only; 18, neither such a value nor a non-empty description
 abbrev pub canadianRows : List ℕ → ℕ → ℕ → List NumberRow
 canadianRows s text uri =
-    row 2 (not (every holds (leb 1800 text ∷ leb 1024 uri ∷ [])))
+    row 2 (not (every holds (leb 7200 text ∷ leb 1024 uri ∷ [])))
     ∷ (messageRows s
     ++ (row 18 (isNone (broadcastValues s) && is "" (description s)) ∷ []))
 

@@ -1,23 +1,28 @@
 -- Groups: their tests, that they have 155 bytes at most, and their parts by the places of their commas.
 --     group-no, time-decides, group-long            a test that fails, what the last one says, and a run that is too long
+--     group-kept, group-low                         a group's characters are such as a copy keeps, so a copy is judged as the run
 --     no-first, no-second                           a comma that is missing
 --     Parted: parted, sender-as, identifier-as, sent-as     both commas are there, and each part is judged as the run between them
 use Prim.Native.Nat.{ℕ, _+_, _-_, _≤_, _<_}
 use mathlib.Core.Path.{_≡_, sym, ap, _∙_}
 use mathlib.Core.Bool.{Bool, true, false}
-use mathlib.Core.List.{List, [], _∷_}
+use mathlib.Core.List.{List, [], _∷_, map}
 use native.Mathlib.Omega.{arith}
 use lib.ListN.{length, take, drop, getD, length-drop, drop-of-length-le}
 use lib.Seq.{take-all, drop-drop}
-use Rattle.octets.proofs.Tests.{never, each-of, one-fails, below-between}
+use Rattle.octets.specs.Bytes.{every}
+use Rattle.octets.proofs.Tests.{never, each-of, one-fails, between-is, below-between}
 use Rattle.octets.proofs.Everys.{last-decides}
 use Rattle.clock.specs.Time.{timeOf, isTime}
 use Rattle.clock.specs.declared.Time.{Time}
+use Rattle.clock.proofs.Kept.{time-kept}
+use Rattle.values.specs.WorkingSteps.{low}
+use Rattle.values.proofs.Copies.{isKept, low-same}
 use Rattle.fields.specs.Fields.{identityOk}
 use Rattle.fields.specs.References.{upTo, behind, senderOf, identifierOf, sentOf}
 use Rattle.fields.specs.WorkingFields.{groupOk}
-use Rattle.fields.proofs.Partings.{upTo-none, upTo-take, upTo-short, behind-drop, parts-long}
-use Rattle.fields.proofs.Identities.{identity-no, identity-short, time-not, time-short}
+use Rattle.fields.proofs.Partings.{upTo-none, upTo-take, upTo-short, behind-drop, parts-long, parts-pass}
+use Rattle.fields.proofs.Identities.{identity-no, identity-short, identity-kept, time-not, time-short}
 
 abbrev pub groupTests : List ℕ → List Bool
 groupTests w = identityOk (senderOf w) ∷ identityOk (identifierOf w) ∷ isTime (timeOf (sentOf w)) ∷ []
@@ -38,6 +43,19 @@ group-short w h =
 
 pub group-long : (w : List ℕ) (n : ℕ) → n ≡ length w → 155 < n → groupOk w ≡ false
 group-long w n q l = never (groupOk w) (λ e. omega (arith, group-short w e))
+
+-- ---- a copy
+
+pub group-kept : (w : List ℕ) → groupOk w ≡ true → every isKept w ≡ true
+unfolding groupOk
+group-kept w h =
+    let e = each-of (groupTests w) h in
+    let comma = between-is 1 127 44 (omega arith) (omega arith) in
+    let rest = parts-pass 44 isKept comma (behind 44 w) (identity-kept (identifierOf w) (e .1 .0)) (time-kept (sentOf w) (e .1 .1 .0)) in
+    parts-pass 44 isKept comma w (identity-kept (senderOf w) (e .0)) rest
+
+pub group-low : (w : List ℕ) → groupOk (map low w) ≡ groupOk w
+group-low w = low-same groupOk group-kept w
 
 -- ---- a group by the places of its commas: a is where the first stands, b where the second does
 

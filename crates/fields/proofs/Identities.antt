@@ -1,21 +1,26 @@
--- Which runs are identities and times, and that a byte more than the longest has is enough to tell.
---     identity-no, identity-is          a test that fails, and all of them holding
---     identity-short, time-short        how long they are
---     identity-cut, time-cut            the first 65 and 26 bytes are judged as the whole
+-- Which runs are identities and times, and that a copy with a character more than the longest has is enough to tell.
+--     identity-no, identity-is            a test that fails, and all of them holding
+--     identity-short, time-short          how long they are
+--     identity-kept                       an identity's characters are such as a copy keeps
+--     identity-copied, time-copied        copies of the first 65 and 26 characters are judged as the whole
 use Prim.Native.Nat.{ℕ, _+_, _≤_, _<_}
 use mathlib.Core.Path.{_≡_, refl, sym, ap, _∙_}
 use mathlib.Core.Bool.{Bool, true, false, true≢false}
-use mathlib.Core.List.{List, [], _∷_}
+use mathlib.Core.List.{List, [], _∷_, map}
 use native.Mathlib.Omega.{arith}
 use borrow.Author.Tests.{ne-eqb, eqb-true}
 use lib.Dec.{eqb}
 use lib.ListN.{length, take, drop, getD, drop-of-length-le}
-use Rattle.octets.specs.Bytes.{every, between}
+use Rattle.octets.specs.Bytes.{every, holds, between, isVisible}
 use Rattle.octets.proofs.Parts.{tail-step}
-use Rattle.octets.proofs.Tests.{each-of, every-of, one-fails, every-step, every-stop, every-none, between-high, between-is, above-between}
-use Rattle.clock.specs.Time.{timeOf, isTime}
+use Rattle.octets.proofs.Tests.{each-of, every-of, one-fails, every-step, every-stop, every-none, and-left, between-low, between-high, between-is, above-between}
+use Rattle.clock.specs.Time.{localTime, offset, utc, inSpan, timeTests, timeOf, isTime}
 use Rattle.clock.specs.declared.Time.{Time}
 use Rattle.clock.proofs.Times.{time-no}
+use Rattle.octets.proofs.Everys.{every-weaker}
+use Rattle.clock.proofs.Kept.{tests-kept}
+use Rattle.values.specs.WorkingSteps.{low}
+use Rattle.values.proofs.Copies.{isKept, low-same, low-pick}
 use Rattle.fields.specs.Fields.{isIdentityByte, identityOk}
 use Rattle.fields.proofs.Buffers.{cut}
 
@@ -65,10 +70,24 @@ time-short t h = go (eqb (length t) 25) refl
     go true e = eqb-true (length t) 25 e
     go false e = let d : true ≡ false = sym h ∙ ap isTime (time-no 0 t e) in absurd (true≢false d)
 
--- ---- a run that is too long is refused
+-- ---- a copy has the characters that are asked for, and a run that is too long is refused
 
-pub identity-cut : (v : List ℕ) → identityOk (take 65 v) ≡ identityOk v
-identity-cut v = cut identityOk false 64 identity-long v
+byte-kept : (c : ℕ) → isIdentityByte c ≡ true → isKept c ≡ true
+unfolding isIdentityByte isVisible
+byte-kept c h =
+    let v = and-left (between 33 126 c) _ h in
+    between-is 1 127 c (omega (arith, between-low 33 126 c v)) (omega (arith, between-high 33 126 c v))
 
-pub time-cut : (v : List ℕ) → timeOf (take 26 v) ≡ timeOf v
-time-cut v = cut timeOf Time.Bad 25 (λ t h. time-not t (omega arith)) v
+pub identity-kept : (v : List ℕ) → identityOk v ≡ true → every isKept v ≡ true
+unfolding identityOk
+identity-kept v h = every-weaker isIdentityByte isKept byte-kept v (each-of (identityTests v) h .1 .0)
+
+pub identity-copied : (v : List ℕ) → identityOk (map low (take 65 v)) ≡ identityOk v
+identity-copied v = low-same identityOk identity-kept (take 65 v) ∙ cut identityOk false 64 identity-long v
+
+time-low : (v : List ℕ) → timeOf (map low v) ≡ timeOf v
+unfolding timeOf
+time-low v = low-pick (λ (t : List ℕ). every holds (timeTests t)) tests-kept v (λ (t : List ℕ). inSpan (utc (localTime t) (offset t))) Time.Bad
+
+pub time-copied : (v : List ℕ) → timeOf (map low (take 26 v)) ≡ timeOf v
+time-copied v = time-low (take 26 v) ∙ cut timeOf Time.Bad 25 (λ t h. time-not t (omega arith)) v

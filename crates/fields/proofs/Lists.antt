@@ -2,23 +2,24 @@
 use Prim.Native.Nat.{ℕ, suc, _-_, _≤_, _<_}
 use mathlib.Core.Path.{_≡_, refl, sym, ap, ap₂, _∙_}
 use mathlib.Core.Bool.{Bool, true, false, and-true}
-use mathlib.Core.List.{List, [], _∷_}
+use mathlib.Core.List.{List, [], _∷_, map}
 use native.Mathlib.Omega.{arith}
 use native.Mathlib.Decide.{decLt}
 use borrow.Author.Tests.{le-leb, lt-leb}
 use lib.Dec.{leb}
-use lib.ListN.{length, take, drop, replicate}
+use lib.ListN.{length, take, drop, replicate, length-map}
 use lib.Seq.{sets}
 use Rattle.octets.specs.Bytes.{pick, every, holds, between, oneOf}
 use Rattle.octets.proofs.Tests.{every-of, one-fails, every-step, every-stop, every-none}
 use Rattle.values.specs.Value.{valueAt}
-use Rattle.values.specs.WorkingSteps.{restAt, leadAt}
+use Rattle.values.specs.WorkingSteps.{restAt, leadAt, low}
 use Rattle.values.proofs.Steps.{value-start}
 use Rattle.fields.specs.WorkingFields.{groupOk, referencesOk}
 use Rattle.fields.specs.References.{words}
 use Rattle.fields.specs.WorkingWords.{wordIn, nextWord, wordAt}
 use Rattle.fields.specs.declared.Word.{Word}
-use Rattle.fields.proofs.Buffers.{taken-back}
+use Rattle.fields.proofs.Buffers.{put-long, taken-back}
+use Rattle.fields.proofs.Groups.{group-low}
 use Rattle.fields.proofs.Words.{words-some, value-words, len-is}
 
 -- at most n words, each a group
@@ -64,5 +65,15 @@ module _ (s : List ℕ) (i n : ℕ) (ok : Bool) (so : fine n (words (restAt s i)
       sym (sym so ∙ one-fails 0 (_ ∷ _ ∷ []) (lt-leb (length (words (restAt s i))) n (omega arith)))
 
 -- the word that was read into a buffer is judged as what is taken from there
-pub judged : (s : List ℕ) (i : ℕ) (w : Word) (x : List ℕ) → w ≡ wordAt s i → x ≡ sets (replicate {A = ℕ} 155 0) 0 (wordIn s i) → w .len ≤ 155 → {r : Bool} → r ≡ groupOk (take (w .len - 0) (drop 0 x)) → groupOk (wordIn s i) ≡ r
-judged s i w x e p h q = sym (q ∙ ap groupOk (taken-back (replicate {A = ℕ} 155 0) (wordIn s i) x 155 (w .len) refl p (len-is s i w e) h))
+module _ (s : List ℕ) (i : ℕ) (w : Word) (x : List ℕ) (e : w ≡ wordAt s i) (p : x ≡ sets (replicate {A = ℕ} 155 0) 0 (map low (wordIn s i))) where
+  low-long : w .len ≡ length (map low (wordIn s i))
+  low-long = len-is s i w e ∙ sym (length-map (wordIn s i) low)
+
+  pub word-room : length x ≡ 155
+  word-room = put-long (replicate {A = ℕ} 155 0) (map low (wordIn s i)) x 155 (w .len) refl p low-long
+
+  pub word-copied : w .len ≤ 155 → take (w .len - 0) (drop 0 x) ≡ map low (wordIn s i)
+  word-copied h = taken-back (replicate {A = ℕ} 155 0) (map low (wordIn s i)) x 155 (w .len) refl p low-long h
+
+  pub judged : w .len ≤ 155 → {r : Bool} → r ≡ groupOk (take (w .len - 0) (drop 0 x)) → groupOk (wordIn s i) ≡ r
+  judged h q = sym (q ∙ ap groupOk (word-copied h) ∙ group-low (wordIn s i))

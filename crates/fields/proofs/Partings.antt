@@ -1,14 +1,17 @@
 -- What stands before and behind the first c of a run.
 --     upTo-take, behind-drop, parts-long     both as parts of the run, and how long they are
+--     parts-pass                             a test that c, what stands before it and what stands behind it pass
 --     first-here, first-on, first-none       where the first c stands, by the element at a place
 use Prim.Native.Nat.{ℕ, suc, _+_, _≤_, _<_}
 use mathlib.Core.Path.{_≡_, refl, ap, _∙_}
 use mathlib.Core.Bool.{Bool, true, false}
 use mathlib.Core.List.{List, [], _∷_}
 use native.Mathlib.Omega.{arith}
-use borrow.Author.Tests.{eq-eqb, ne-eqb}
+use borrow.Author.Tests.{eq-eqb, ne-eqb, eqb-true}
 use lib.Dec.{eqb}
 use lib.ListN.{length, take, drop, getD, drop-of-length-le}
+use Rattle.octets.specs.Bytes.{every}
+use Rattle.octets.proofs.Tests.{every-none, every-step, every-first, every-rest}
 use Rattle.octets.proofs.Parts.{tail-step}
 use Rattle.fields.specs.References.{upTo, behind}
 
@@ -71,6 +74,17 @@ module _ (c : ℕ) where
       go : (b : Bool) → eqb x c ≡ b → length (upTo c t) ≤ length t → length (upTo c (x ∷ t)) ≤ length (x ∷ t)
       go true e h = rw (upTo-stop x t e) (omega arith)
       go false e h = rw (upTo-more x t e) (omega arith)
+
+  -- where c passes a test, and so do what stands before it and behind it, all of the run does
+  pub parts-pass : (f : ℕ → Bool) → f c ≡ true → (t : List ℕ) → every f (upTo c t) ≡ true → every f (behind c t) ≡ true → every f t ≡ true
+  parts-pass f p [] a b = every-none f
+  parts-pass f p (x ∷ t) a b = go (eqb x c) refl (parts-pass f p t)
+    where
+      go : (q : Bool) → eqb x c ≡ q → (every f (upTo c t) ≡ true → every f (behind c t) ≡ true → every f t ≡ true) → every f (x ∷ t) ≡ true
+      go true e h = every-step f x t (ap f (eqb-true x c e) ∙ p) ∙ (rw (behind-stop x t e) at b)
+      go false e h =
+          let u : every f (x ∷ upTo c t) ≡ true = rw (upTo-more x t e) at a in
+          every-step f x t (every-first f x (upTo c t) u) ∙ h (every-rest f x (upTo c t) u) (rw (behind-more x t e) at b)
 
   -- ---- where the first c stands from i on
 

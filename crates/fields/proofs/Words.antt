@@ -5,7 +5,7 @@
 use Prim.Native.Nat.{ℕ, zero, suc, _+_, _≤_, _<_}
 use mathlib.Core.Path.{_≡_, refl, sym, ap, _∙_}
 use mathlib.Core.Bool.{Bool, true, false}
-use mathlib.Core.List.{List, [], _∷_}
+use mathlib.Core.List.{List, [], _∷_, map}
 use native.Mathlib.Omega.{arith}
 use borrow.Author.Tests.{eq-eqb, ne-eqb, eqb-true, eqb-false}
 use lib.Dec.{eqb}
@@ -15,7 +15,7 @@ use Rattle.octets.specs.Bytes.{pick, oneOf}
 use Rattle.octets.proofs.Tests.{picked, passed-over}
 use Rattle.octets.proofs.Runs.{sets-more}
 use Rattle.values.specs.Value.{runs}
-use Rattle.values.specs.WorkingSteps.{restAt, stepAt}
+use Rattle.values.specs.WorkingSteps.{restAt, stepAt, low}
 use Rattle.values.specs.declared.Got.{Got}
 use Rattle.values.specs.declared.Got.the-variants.{Is, Done}
 use Rattle.values.proofs.Texts.{text-past}
@@ -119,7 +119,7 @@ module _ (s : List ℕ) where
 pub record Wording (s : List ℕ) (at : ℕ) (d x : List ℕ) (i k : ℕ) : Type 0 where
   pub counts : k ≤ i
   pub long : length x ≡ length d
-  pub puts : sets x k (wordIn s i) ≡ sets d 0 (wordIn s at)
+  pub puts : sets x k (map low (wordIn s i)) ≡ sets d 0 (map low (wordIn s at))
   pub sizes : k + length (wordIn s i) ≡ length (wordIn s at)
   pub more : oneOf (restAt s i) 32 ≡ oneOf (restAt s at) 32
   pub fuel : ℕ
@@ -151,13 +151,13 @@ module _ (s : List ℕ) (i : ℕ) (w : Word) (e : w ≡ wordAt s i) where
 
 module _ {s : List ℕ} {at : ℕ} {d x : List ℕ} {i k : ℕ} (r : Wording s at d x i k) where
   -- the loop is at the word's end
-  ended : wordIn s i ≡ [] → (k ≡ length (wordIn s at)) × (x ≡ sets d 0 (wordIn s at))
+  ended : wordIn s i ≡ [] → (k ≡ length (wordIn s at)) × (x ≡ sets d 0 (map low (wordIn s at)))
   ended e =
       let q = r .sizes in
       let z : length (wordIn s i) ≡ 0 = ap length e in
-      (omega arith, ap (sets x k) (sym e) ∙ r .puts)
+      (omega arith, ap (λ (l : List ℕ). sets x k (map low l)) (sym e) ∙ r .puts)
 
-  pub word-done : stepAt s i ≡ Done → (_≡_ {A = Word} (record { len = k; next = length s; more = false }) (wordAt s at)) × (x ≡ sets d 0 (wordIn s at))
+  pub word-done : stepAt s i ≡ Done → (_≡_ {A = Word} (record { len = k; next = length s; more = false }) (wordAt s at)) × (x ≡ sets d 0 (map low (wordIn s at)))
   word-done e =
       let z = step-done s i e in
       let w = ended (ap (upTo 32) z ∙ upTo-none 32) in
@@ -170,7 +170,7 @@ module _ {s : List ℕ} {at : ℕ} {d x : List ℕ} {i k : ℕ} (r : Wording s a
     left zero h o P f = let l = step-more s i c j e .1 .on in let g = step-more s i c j e .1 .in-it in absurd (omega arith)
     left (suc m) h o P f = f m refl o
 
-    pub word-space : c ≡ 32 → (_≡_ {A = Word} (record { len = k; next = j; more = true }) (wordAt s at)) × (x ≡ sets d 0 (wordIn s at))
+    pub word-space : c ≡ 32 → (_≡_ {A = Word} (record { len = k; next = j; more = true }) (wordAt s at)) × (x ≡ sets d 0 (map low (wordIn s at)))
     word-space q =
         let b : eqb c 32 ≡ true = eq-eqb c 32 q in
         let z = step-more s i c j e .0 in
@@ -179,8 +179,8 @@ module _ {s : List ℕ} {at : ℕ} {d x : List ℕ} {i k : ℕ} (r : Wording s a
         let n : j ≡ nextWord s at = left (r .fuel) (r .room) (r .onto) (j ≡ nextWord s at) (λ f p o. sym (next-space s f i c j e b) ∙ o) in
         (word-made s at k j true (w .0) n m, w .1)
 
-    pub word-more : (c ≡ 32 → ⊥) → (y : List ℕ) → y ≡ sets x k (c ∷ []) → Wording s at d y j (k + 1)
-    word-more q y p =
+    pub word-more : (c ≡ 32 → ⊥) → (a : ℕ) (y : List ℕ) → a ≡ low c → y ≡ sets x k (a ∷ []) → Wording s at d y j (k + 1)
+    word-more q a y o p =
         let b : eqb c 32 ≡ false = ne-eqb c 32 q in
         let z = step-more s i c j e .0 in
         let g = step-more s i c j e .1 .on in
@@ -189,14 +189,14 @@ module _ {s : List ℕ} {at : ℕ} {d x : List ℕ} {i k : ℕ} (r : Wording s a
         let h = r .room in
         let w : wordIn s i ≡ c ∷ wordIn s j = ap (upTo 32) z ∙ upTo-more 32 c (restAt s j) b in
         let y′ : length (wordIn s i) ≡ suc (length (wordIn s j)) = ap length w in
-        let t : sets x k (c ∷ wordIn s j) ≡ sets d 0 (wordIn s at) = ap (sets x k) (sym w) ∙ r .puts in
-        left (r .fuel) (r .room) (r .onto) (Wording s at d y j (k + 1)) (λ f a o. record {
+        let t : sets x k (low c ∷ map low (wordIn s j)) ≡ sets d 0 (map low (wordIn s at)) = ap (λ (l : List ℕ). sets x k (map low l)) (sym w) ∙ r .puts in
+        left (r .fuel) (r .room) (r .onto) (Wording s at d y j (k + 1)) (λ f l n. record {
           counts = omega arith;
-          long = ap length p ∙ length-set x k c ∙ r .long;
-          puts = rw p (sets-more x k c c (wordIn s j) (sets d 0 (wordIn s at)) t refl);
+          long = ap length p ∙ length-set x k a ∙ r .long;
+          puts = rw p (sets-more x k (low c) a (map low (wordIn s j)) (sets d 0 (map low (wordIn s at))) t (sym o));
           sizes = omega arith;
           more = sym (ap (λ (l : List ℕ). oneOf l 32) z ∙ space-later c (restAt s j) b) ∙ r .more;
           fuel = f;
           room = omega arith;
-          onto = sym (next-char s f i c j e b) ∙ o;
+          onto = sym (next-char s f i c j e b) ∙ n;
         })

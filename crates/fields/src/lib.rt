@@ -2,12 +2,13 @@
 use clock::Time;
 use values::Got;
 ghost use mathlib.Core.Path.{_≡_};
-ghost use mathlib.Core.List.{[], _∷_};
+ghost use mathlib.Core.List.{[], _∷_, map};
 ghost use Prim.Native.Nat.{_+_};
 ghost use lib.ListN.{length, drop};
 ghost use lib.Seq.{sets};
 ghost use Rattle.clock.specs.Time.{timeOf};
 ghost use Rattle.values.specs.Value.{valueAt};
+ghost use Rattle.values.specs.WorkingSteps.{low};
 ghost use Rattle.fields.specs.Fields.{isIdentityByte, identityOk};
 ghost use Rattle.fields.specs.WorkingFields.{indexIn, statuses, scopes, msgTypeIn};
 ghost use Rattle.fields.specs.References.{upTo};
@@ -185,10 +186,10 @@ fn keep(out: &mut [u8], k: usize, c: u8)
     }
 }
 
-// The next word of a value from a place in it; as much of it as there is room for is put into `out`.
+// The next word of a value from a place in it; as much of it as there is room for is put into `out`, each character as one byte.
 pub fn next_word(s: &[u8], at: usize, out: &mut [u8]) -> Word
     ensures { λ r. ⌜ r ≡ wordAt (now (s .entry)) at ⌝ }
-    ensures { λ _. ⌜ now (out .exit) ≡ sets (now (out .entry)) 0 (wordIn (now (s .entry)) at) ⌝ }
+    ensures { λ _. ⌜ now (out .exit) ≡ sets (now (out .entry)) 0 (map low (wordIn (now (s .entry)) at)) ⌝ }
 {
     let mut i = at;
     let mut k: usize = 0;
@@ -208,7 +209,7 @@ pub fn next_word(s: &[u8], at: usize, out: &mut [u8]) -> Word
                 more: true,
             };
         }
-        keep(out, k, c);
+        keep(out, k, values::low_of(c));
         i = j;
         k += 1;
     }

@@ -31,7 +31,7 @@ use Rattle.markup.specs.Document.{docAt}
 use Rattle.values.specs.Value.{valueAt}
 use Rattle.values.specs.WorkingSteps.{sixDigits}
 use Rattle.reads.specs.WorkingLeaves.{soundOf, onlyOf, pairOk, noInfo, sentLeaf}
-use Rattle.reads.specs.WorkingSteps.{says, withLocation, locationOf, locationStep, audioOf, isAudio, audioStep}
+use Rattle.reads.specs.WorkingSteps.{says, withLocation, locationOf, locationStep, audioOf, uriOk, isAudio, audioStep}
 use Rattle.reads.specs.declared.Leaf.{Leaf}
 use Rattle.reads.specs.declared.Locations.{Locations}
 use Rattle.reads.specs.declared.Audio.{Audio}
@@ -55,7 +55,7 @@ pub record LocationsFit (l : Locations) : Type 0 where
 
 record AudioFits (s : List ℕ) (a : Audio) : Type 0 where
   pub number : a .number ≤ 3
-  pub uri : eqb (a .number) 0 ≡ false → between 1 1024 (length (valueAt s (a .uri))) ≡ true
+  pub uri : eqb (a .number) 0 ≡ false → uriOk (valueAt s (a .uri)) ≡ true
 
 -- ---- a fold
 
@@ -136,7 +136,7 @@ resource-fits s p x e h =
     uri = leafIn s p "uri" (e .holds)
 
     first : isAudio s mime uri ≡ true → AudioFits s (record { number = audioOf s (mime .at); uri = uri .at; fault = x .fault })
-    first q = record { number = audio-most s (mime .at); uri = λ r. and-right (not (eqb (audioOf s (mime .at)) 0)) (between 1 1024 (length (valueAt s (uri .at)))) q }
+    first q = record { number = audio-most s (mime .at); uri = λ r. and-right (not (eqb (audioOf s (mime .at)) 0)) (uriOk (valueAt s (uri .at))) q }
 
 -- ---- what holds of an info and of a message
 
@@ -188,7 +188,7 @@ audio-holds s =
 pub audio-number : (s : List ℕ) → messageSays s .alert .info .audio .number ≤ 3
 audio-number s = audio-holds s .number
 
-pub audio-fits : (s : List ℕ) → let a = messageSays s .alert .info .audio in eqb (a .number) 0 ≡ false → between 1 1024 (length (valueAt s (a .uri))) ≡ true
+pub audio-fits : (s : List ℕ) → let a = messageSays s .alert .info .audio in eqb (a .number) 0 ≡ false → uriOk (valueAt s (a .uri)) ≡ true
 audio-fits s = audio-holds s .uri
 
 -- ---- sent

@@ -9,10 +9,11 @@ use native.Mathlib.Omega.{arith}
 use lib.ListN.{length}
 use lib.Dec.{lit<}
 use Rattle.octets.specs.Bytes.{pick, byteAt, stands, isSpace}
-use Rattle.octets.specs.Scan.{scan}
+use Rattle.octets.specs.Scan.{scanBy}
 use Rattle.octets.specs.Text.{bytes}
 use Rattle.octets.proofs.Sames.{stands-in}
-use Rattle.octets.proofs.Scans.{scan-ge}
+use Rattle.octets.proofs.Scans.{by-ge}
+use Rattle.characters.specs.Utf8.{codedWidth}
 use Rattle.pieces.specs.Pieces.{noteAt, pieceAt}
 use Rattle.pieces.specs.declared.End.{End}
 use Rattle.pieces.specs.declared.End.the-variants.{At, No}
@@ -92,10 +93,10 @@ unfolding declarationAt bytes
 decl-goes s i l = go (stands (60 ∷ 63 ∷ 120 ∷ 109 ∷ 108 ∷ []) s i) (isSpace (byteAt s (i + 5))) (stands (63 ∷ 62 ∷ []) s e) refl
   where
     e : ℕ
-    e = scan (inDeclaration s) (length s) (i + 6)
+    e = scanBy (codedWidth s) (inDeclaration s) (length s) (i + 6)
 
     go : (a b c : Bool) → stands (63 ∷ 62 ∷ []) s e ≡ c → EndGoes s i (pick a (pick b (pick c (At (e + 2)) No) No) (At i))
-    go true true true q = let h = scan-ge (inDeclaration s) (length s) (i + 6) in (omega arith, stands-in (63 ∷ 62 ∷ []) s e q (lit< tt))
+    go true true true q = let h = by-ge (codedWidth s) (inDeclaration s) (length s) (i + 6) in (omega arith, stands-in (63 ∷ 62 ∷ []) s e q (lit< tt))
     go true true false q = tt
     go true false c q = tt
     go false b c q = (omega arith, l)

@@ -3,10 +3,11 @@ use Prim.Native.Nat.{ℕ, _+_}
 use mathlib.Core.Bool.{Bool, _&&_, not}
 use mathlib.Core.List.{List}
 use lib.ListN.{length}
-use lib.Dec.{eqb, ltb}
+use lib.Dec.{eqb}
 use Rattle.octets.specs.Bytes.{pick, byteAt, stands, isSpace}
-use Rattle.octets.specs.Scan.{scan}
+use Rattle.octets.specs.Scan.{scanBy}
 use Rattle.octets.specs.Text.{bytes}
+use Rattle.characters.specs.Utf8.{codedAt, codedWidth}
 use Rattle.pieces.specs.Walk.{walkAt}
 use Rattle.pieces.specs.Pieces.{noteAt}
 use Rattle.pieces.specs.declared.End.{End}
@@ -15,14 +16,14 @@ use Rattle.pieces.specs.declared.Step.{Step}
 use Rattle.pieces.specs.declared.Step.the-variants.{Go, Stop, Stuck}
 use Rattle.markup.specs.Tree.{One, one, none, elemAt}
 
--- anything up to the first `?>`
+-- anything up to the first `?>`, in UTF-8
 unfoldable pub inDeclaration : List ℕ → ℕ → Bool
-inDeclaration s i = ltb i (length s) && not (stands (bytes "?>") s i)
+inDeclaration s i = codedAt s i && not (stands (bytes "?>") s i)
 
 -- an optional declaration, at i: `<?xml`, one white space, anything up to the first `?>`
 unfoldable pub declarationAt : List ℕ → ℕ → End
 declarationAt s i =
-    let e = scan (inDeclaration s) (length s) (i + 6) in
+    let e = scanBy (codedWidth s) (inDeclaration s) (length s) (i + 6) in
     pick (stands (bytes "<?xml") s i) (pick (isSpace (byteAt s (i + 5))) (pick (stands (bytes "?>") s e) (At (e + 2)) No) No) (At i)
 
 unfoldable pub goOn : End → Step

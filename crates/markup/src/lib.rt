@@ -3,20 +3,24 @@ use pieces::End;
 use pieces::Step;
 ghost use mathlib.Core.Path.{_≡_};
 ghost use lib.ListN.{length};
-ghost use Rattle.octets.specs.Scan.{scan};
+ghost use Rattle.octets.specs.Scan.{scanBy};
+ghost use Rattle.characters.specs.Utf8.{codedWidth};
 ghost use Rattle.markup.specs.Document.{inDeclaration, declarationAt, miscStep, miscAt};
 
 fn declaration_end(s: &[u8], at: usize) -> usize
-    ensures { λ r. ⌜ r ≡ scan (inDeclaration (now (s .entry))) (length (now (s .entry))) at ⌝ }
+    ensures { λ r. ⌜ r ≡ scanBy (codedWidth (now (s .entry))) (inDeclaration (now (s .entry))) (length (now (s .entry))) at ⌝ }
 {
     let mut i = at;
-    while i < s.len() {
+    loop {
         if octets::stands_at(s, i, b"?>") {
             return i;
         }
-        i += 1;
+        let n = characters::coded_width(s, i);
+        if n == 0 {
+            return i;
+        }
+        i += n;
     }
-    i
 }
 
 // Where the declaration ends that begins at `at`, which is there where none begins; or that it does not end.

@@ -1,5 +1,5 @@
 -- Records put into a batch, one behind another.
---     notice-laid                                 the notice, from zero-filled fields
+--     notice-laid                                 the notice, from copies in zero-filled fields
 --     group-laid, word-back                       a withdrawal, from a group's parts and from the next word
 --     Putting, put-starts, put-last, put-more     the withdrawals of the references that are left, from record k on
 --     put-none, put-one, put-alone, put-both      the records of a message
@@ -17,16 +17,18 @@ use Rattle.octets.proofs.Runs.{sets-append}
 use Rattle.clock.specs.Time.{timeOf, instantIn}
 use Rattle.clock.specs.declared.Time.{Time}
 use Rattle.values.specs.Value.{valueAt}
-use Rattle.values.specs.WorkingSteps.{restAt, leadAt}
+use Rattle.values.specs.WorkingSteps.{restAt, leadAt, low}
 use Rattle.values.proofs.Steps.{value-start}
+use Rattle.values.proofs.Copies.{keeps}
+use Rattle.fields.specs.Fields.{identityOk}
 use Rattle.fields.specs.References.{upTo, senderOf, identifierOf, words}
 use Rattle.fields.specs.WorkingFields.{groupOk, referencesOk}
 use Rattle.fields.specs.WorkingWords.{wordIn, nextWord, wordAt}
 use Rattle.fields.specs.declared.Word.{Word}
-use Rattle.fields.proofs.Identities.{identity-short}
-use Rattle.fields.proofs.Buffers.{put-long, taken-back}
-use Rattle.fields.proofs.Groups.{groupTests, group-long, no-first, no-second, Parted, parted}
+use Rattle.fields.proofs.Identities.{identity-short, identity-kept}
+use Rattle.fields.proofs.Groups.{groupTests, group-long, group-kept, no-first, no-second, Parted, parted}
 use Rattle.fields.proofs.Words.{value-words, len-is, next-is, more-is}
+use Rattle.fields.proofs.Lists.{word-room, word-copied}
 use Rattle.judgement.specs.WorkingRules.{asksReferences}
 use Rattle.judgement.specs.declared.Judged.{Judged}
 use Rattle.records.specs.Record.{pad, be4, keyOf, notice, withdrawal}
@@ -40,19 +42,21 @@ use Rattle.offers.proofs.Taken.{named-good, references-are, map-long, R
 
 -- ---- the notice
 
--- a value copied into n zeros
-value-laid : (n : ℕ) (v x : List ℕ) → length v ≤ n → x ≡ sets (replicate n 0) 0 (take n v) → x ≡ pad n v
-value-laid n v x l p = laid n v x l (p ∙ ap (sets (replicate n 0) 0) (take-all n v l))
+-- an identity copied into zeros
+identity-laid : (v x : List ℕ) → identityOk v ≡ true → x ≡ sets (replicate 64 0) 0 (map low (take 64 v)) → x ≡ pad 64 v
+identity-laid v x ok p =
+    let l = identity-short v ok in
+    laid 64 v x l (p ∙ ap (λ (w : List ℕ). sets (replicate 64 0) 0 (map low w)) (take-all 64 v l) ∙ ap (sets (replicate 64 0) 0) (keeps v (identity-kept v ok)))
 
 padded : (n : ℕ) (v : List ℕ) → length v ≤ n → pad n (pad n v) ≡ pad n v
 padded n v l = pad-whole n (pad n v) (pad-long n v l)
 
-pub notice-laid : (sent : ℕ) (a b h x y z r : List ℕ) → length a ≤ 64 → length b ≤ 64 → length h ≤ 243 →
-    x ≡ sets (replicate 64 0) 0 (take 64 a) → y ≡ sets (replicate 64 0) 0 (take 64 b) → z ≡ sets (replicate 243 0) 0 h → r ≡ notice (keyOf sent x y) (pad 243 z) → r ≡ notice (keyOf sent a b) (pad 243 h)
+pub notice-laid : (sent : ℕ) (a b h x y z r : List ℕ) → identityOk a ≡ true → identityOk b ≡ true → length h ≤ 243 → x ≡ sets (replicate 64 0) 0 (map low (take 64 a)) →
+    y ≡ sets (replicate 64 0) 0 (map low (take 64 b)) → z ≡ sets (replicate 243 0) 0 h → r ≡ notice (keyOf sent x y) (pad 243 z) → r ≡ notice (keyOf sent a b) (pad 243 h)
 unfolding keyOf
-notice-laid sent a b h x y z r la lb lh px py pz e =
-    let qx = ap (pad 64) (value-laid 64 a x la px) ∙ padded 64 a la in
-    let qy = ap (pad 64) (value-laid 64 b y lb py) ∙ padded 64 b lb in
+notice-laid sent a b h x y z r oa ob lh px py pz e =
+    let qx = ap (pad 64) (identity-laid a x oa px) ∙ padded 64 a (identity-short a oa) in
+    let qy = ap (pad 64) (identity-laid b y ob py) ∙ padded 64 b (identity-short b ob) in
     let qz = ap (pad 243) (laid 243 h z lh pz) ∙ padded 243 h lh in
     e ∙ (λ i. notice (be4 sent ++ (qx i ++ qy i)) (qz i))
 
@@ -82,13 +86,16 @@ group-fits w ok = go (decLt 155 (length w))
     go (yes h) = absurd (true≢false (sym ok ∙ group-long w (length w) refl h))
     go (no h) = omega arith
 
--- the next word of the references, as it was put into a buffer of 155 bytes
-module _ (s : List ℕ) (at : ℕ) (w : Word) (x : List ℕ) (told : w ≡ wordAt s at) (put : x ≡ sets (replicate {A = ℕ} 155 0) 0 (wordIn s at)) (ok : groupOk (wordIn s at) ≡ true) where
+-- the next word of the references, as its copy was put into a buffer of 155 bytes
+module _ (s : List ℕ) (at : ℕ) (w : Word) (x : List ℕ) (told : w ≡ wordAt s at) (put : x ≡ sets (replicate {A = ℕ} 155 0) 0 (map low (wordIn s at))) (ok : groupOk (wordIn s at) ≡ true) where
+  short : w .len ≤ 155
+  short = omega (arith, len-is s at w told, group-fits (wordIn s at) ok)
+
   pub word-fits : w .len ≤ length x
-  word-fits = omega (arith, len-is s at w told, group-fits (wordIn s at) ok, put-long (replicate {A = ℕ} 155 0) (wordIn s at) x 155 (w .len) refl put (len-is s at w told))
+  word-fits = omega (arith, short, word-room s at w x told put)
 
   pub word-back : take (w .len - 0) (drop 0 x) ≡ wordIn s at
-  word-back = taken-back (replicate {A = ℕ} 155 0) (wordIn s at) x 155 (w .len) refl put (len-is s at w told) (omega (arith, len-is s at w told, group-fits (wordIn s at) ok))
+  word-back = word-copied s at w x told put short ∙ keeps (wordIn s at) (group-kept (wordIn s at) ok)
 
   module _ (r : List ℕ) (made : r ≡ withdrawal (namedBy (take (w .len - 0) (drop 0 x)))) where
     pub withdrawal-is : r ≡ withdrawal (namedBy (wordIn s at))

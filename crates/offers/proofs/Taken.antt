@@ -5,7 +5,7 @@
 use Prim.Native.Nat.{ℕ, zero, suc, _≤_, _<_}
 use mathlib.Core.Path.{_≡_, refl, sym, ap, _∙_, subst}
 use mathlib.Core.Logic.{⊎-elim}
-use mathlib.Core.Bool.{Bool, true, false, _&&_, not}
+use mathlib.Core.Bool.{Bool, true, false, _&&_}
 use mathlib.Core.List.{List, [], _∷_, map}
 use native.Mathlib.Omega.{arith}
 use borrow.Author.Tests.{eqb-true, not-false}
@@ -218,8 +218,8 @@ records-few s = go (eqb (judgedOf s .number) 0) refl
 -- ---- the same of a judgement
 
 pub record Ready (s : List ℕ) (j : Judged) : Type 0 where
-  pub sender : length (ownSender s (j .message)) ≤ 64
-  pub identifier : length (ownIdentifier s (j .message)) ≤ 64
+  pub sender : identityOk (ownSender s (j .message)) ≡ true
+  pub identifier : identityOk (ownIdentifier s (j .message)) ≡ true
   pub references : asksReferences (j .message .«msg_type») ≡ true → referencesOk (ownReferences s (j .message)) ≡ true
   pub places : j .quiet ≡ false → j .body .count ≤ 31
   pub header : j .quiet ≡ false → length (bodyBytes (j .body)) ≤ 243
@@ -234,8 +234,8 @@ ready s j e z = subst (Ready s) (sym e) (of-judged (sym (ap (λ (x : Judged). x 
     of-judged n =
         let v = sound s n in
         record {
-          sender = identity-short _ (v .sender);
-          identifier = identity-short _ (v .identifier);
+          sender = v .sender;
+          identifier = v .identifier;
           references = v .references;
           places = λ q. has (judgedOf s .body) (body-ok s n q) .few;
           header = λ q. body-long _ (form s n q) .1;

@@ -5,7 +5,7 @@ ghost use Prim.Native.Nat.{_≤_};
 ghost use lib.ListN.{length};
 ghost use lib.Seq.{sets};
 ghost use Rattle.outputs.specs.Outputs.{textAnswerOf};
-ghost use Rattle.outputs.specs.WorkingOutputs.{roomyText, uriIn, textRefused};
+ghost use Rattle.outputs.specs.WorkingOutputs.{roomyText, uriIn, UriFits, textRefused};
 
 // What a call answers that gives text and audio and no header: the number and the field; audio (0 none, 1 mp3, 2 wav, 3 stream); how long uri
 // and text are.
@@ -21,7 +21,7 @@ pub struct TextAudio {
 pub fn is_roomy(text: usize, uri: usize) -> bool
     ensures { λ r. ⌜ r ≡ roomyText text uri ⌝ }
 {
-    if text < 1800 {
+    if text < 7200 {
         return false;
     }
     1024 <= uri
@@ -29,7 +29,7 @@ pub fn is_roomy(text: usize, uri: usize) -> bool
 
 // Puts the uri of the audio choice at the start of `out`, and says how long it is.
 pub fn put_uri(s: &[u8], a: Audio, out: &mut [u8]) -> usize
-    requires { ⌜ length (uriIn (now s) a) ≤ 1024 ⌝ }
+    requires { ⌜ UriFits (uriIn (now s) a) ⌝ }
     requires { ⌜ 1024 ≤ length (now out) ⌝ }
     ensures { λ r. ⌜ r ≡ length (uriIn (now (s .entry)) a) ⌝ }
     ensures { λ _. ⌜ now (out .exit) ≡ sets (now (out .entry)) 0 (uriIn (now (s .entry)) a) ⌝ }

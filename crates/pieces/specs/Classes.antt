@@ -1,13 +1,10 @@
--- The classes of bytes of document 01, "Reading the message", beside those of octets.
+-- The classes of characters and bytes of document 01, "Reading the message", beside those of octets and characters.
 use Prim.Native.Nat.{ℕ, _-_}
 use mathlib.Core.Bool.{Bool, _&&_, _||_, not}
 use mathlib.Core.List.{[], _∷_}
 use lib.Dec.{eqb, ltb}
-use Rattle.octets.specs.Bytes.{pick, between, oneOf, isDigit, isLetter, isSpace, isVisible}
-
--- white space is 9, 10, 13, 32; elsewhere only these and 33 to 126 may stand
-unfoldable pub mayStand : ℕ → Bool
-mayStand b = isSpace b || isVisible b
+use Rattle.octets.specs.Bytes.{pick, between, oneOf, isDigit, isLetter}
+use Rattle.characters.specs.Utf8.{isLegal}
 
 -- letter or `_`
 unfoldable pub isStart : ℕ → Bool
@@ -17,9 +14,9 @@ isStart b = isLetter b || eqb b 95
 unfoldable pub isNamed : ℕ → Bool
 isNamed b = isLetter b || isDigit b || oneOf (95 ∷ 45 ∷ 46 ∷ []) b
 
--- a byte that stands for itself in text and in a value: neither `<` nor `&`
+-- a character that stands for itself in text and in a value: neither `<` nor `&`
 unfoldable pub isPlain : ℕ → Bool
-isPlain b = mayStand b && not (oneOf (60 ∷ 38 ∷ []) b)
+isPlain c = isLegal c && not (oneOf (60 ∷ 38 ∷ []) c)
 
 -- what a decimal or hexadecimal digit counts, in either letter case; 16 where it is none
 unfoldable pub figureOf : ℕ → ℕ

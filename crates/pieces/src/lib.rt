@@ -1,11 +1,13 @@
 // The pieces of a message: names, comments, references, runs of text, and what stands next in an element.
 ghost use mathlib.Core.Path.{_≡_};
+ghost use mathlib.Core.Bool.{true};
 ghost use Prim.Native.Nat.{_+_, _≤_};
 ghost use lib.ListN.{length};
-ghost use Rattle.octets.specs.Bytes.{part, isSpace};
-ghost use Rattle.octets.specs.Scan.{scan, past};
-ghost use Rattle.pieces.specs.Classes.{mayStand, isStart, isNamed, figureOf, isFigure};
-ghost use Rattle.pieces.specs.WorkingClasses.{isRun, isQuiet};
+ghost use Rattle.octets.specs.Bytes.{pick, byteAt, part, isSpace};
+ghost use Rattle.octets.specs.Scan.{past};
+ghost use Rattle.characters.specs.Utf8.{widthAt, through};
+ghost use Rattle.pieces.specs.Classes.{isStart, isNamed, figureOf, isFigure};
+ghost use Rattle.pieces.specs.WorkingClasses.{isRun, isCommentByte, Runs};
 ghost use Rattle.pieces.specs.Pieces.{plainAt, short, nameAt, inNote, noteAt, wordedAt, numeralFrom, numberAt, refAt, charAt, inText, tagAt, pieceAt};
 
 // Where something ends, or that it does not stand there.
@@ -16,7 +18,7 @@ pub enum End {
 
 // What a reference or a character stands for, and where it ends.
 pub enum Ref {
-    Byte(u8, usize),
+    Scalar(u32, usize),
     Wrong,
 }
 
@@ -38,50 +40,52 @@ pub enum Piece {
 
 // ---- classes
 
-fn may_stand(b: u8) -> bool
-    ensures { λ r. ⌜ r ≡ mayStand b ⌝ }
-{
-    if b < 32 {
-        return octets::is_space(b);
-    }
-    b <= 126
-}
-
-fn is_run(b: u8) -> bool
+// A byte of a run of text: small letters first, which most of them are, and then downwards, between the three that are none.
+pub fn is_run(b: u8) -> bool
     ensures { λ r. ⌜ r ≡ isRun b ⌝ }
 {
-    if b == 93 {
-        return false;
+    if 93 < b {
+        return b < 128;
     }
-    if b == 60 {
-        return false;
+    if 60 < b {
+        return b != 93;
+    }
+    if 38 < b {
+        return b != 60;
     }
     if b == 38 {
         return false;
     }
-    may_stand(b)
+    if 31 < b {
+        return true;
+    }
+    octets::is_space(b)
 }
 
-fn is_quiet(b: u8) -> bool
-    ensures { λ r. ⌜ r ≡ isQuiet b ⌝ }
+fn is_comment_byte(b: u8) -> bool
+    ensures { λ r. ⌜ r ≡ isCommentByte b ⌝ }
 {
     if b == 45 {
         return false;
     }
-    may_stand(b)
+    characters::is_single(b)
 }
 
+// Small letters first, which most bytes of a name are, and then downwards.
 fn is_named(b: u8) -> bool
     ensures { λ r. ⌜ r ≡ isNamed b ⌝ }
 {
-    if octets::is_letter(b) {
-        return true;
+    if 96 < b {
+        return b <= 122;
     }
-    if octets::is_digit(b) {
-        return true;
+    if 64 < b {
+        if b <= 90 {
+            return true;
+        }
+        return b == 95;
     }
-    if b == 95 {
-        return true;
+    if 47 < b {
+        return b <= 57;
     }
     if b == 45 {
         return true;
@@ -157,27 +161,34 @@ pub fn name(s: &[u8], at: usize) -> End
 
 // ---- comments
 
-fn in_note(s: &[u8], i: usize) -> bool
-    ensures { λ r. ⌜ r ≡ inNote (now (s .entry)) i ⌝ }
+// How many bytes the character at i has, if the comment goes on there; else 0.
+fn in_note(s: &[u8], i: usize) -> usize
+    ensures { λ r. ⌜ r ≡ pick (inNote (now (s .entry)) i) (widthAt (now (s .entry)) i) 0 ⌝ }
 {
     let b = octets::byte(s, i);
-    if is_quiet(b) {
-        return true;
+    if is_comment_byte(b) {
+        return 1;
+    }
+    if 128 <= b {
+        return characters::width_at(s, i);
     }
     if b != 45 {
-        return false;
+        return 0;
     }
-    !octets::stands_at(s, i, b"--")
+    if octets::stands_at(s, i, b"--") { 0 } else { 1 }
 }
 
 fn note_body(s: &[u8], at: usize) -> usize
-    ensures { λ r. ⌜ r ≡ scan (inNote (now (s .entry))) (length (now (s .entry))) at ⌝ }
+    ensures { λ r. ⌜ r ≡ through (inNote (now (s .entry))) (now (s .entry)) at ⌝ }
 {
     let mut i = at;
-    while in_note(s, i) {
-        i += 1;
+    loop {
+        let n = in_note(s, i);
+        if n == 0 {
+            return i;
+        }
+        i += n;
     }
-    i
 }
 
 pub fn note(s: &[u8], at: usize) -> End
@@ -200,19 +211,19 @@ fn worded(s: &[u8], at: usize) -> Ref
     ensures { λ r. ⌜ r ≡ wordedAt (now (s .entry)) at ⌝ }
 {
     if octets::stands_at(s, at, b"&lt;") {
-        return Ref::Byte(60, at + 4);
+        return Ref::Scalar(60, at + 4);
     }
     if octets::stands_at(s, at, b"&gt;") {
-        return Ref::Byte(62, at + 4);
+        return Ref::Scalar(62, at + 4);
     }
     if octets::stands_at(s, at, b"&amp;") {
-        return Ref::Byte(38, at + 5);
+        return Ref::Scalar(38, at + 5);
     }
     if octets::stands_at(s, at, b"&quot;") {
-        return Ref::Byte(34, at + 6);
+        return Ref::Scalar(34, at + 6);
     }
     if octets::stands_at(s, at, b"&apos;") {
-        return Ref::Byte(39, at + 6);
+        return Ref::Scalar(39, at + 6);
     }
     Ref::Wrong
 }
@@ -245,7 +256,7 @@ fn figures(s: &[u8], at: usize, base: u8) -> usize
 
 fn numeral(s: &[u8], at: usize, n: usize, base: u8) -> u32
     requires { ⌜ at + n ≤ length (now s) ⌝ }
-    requires { ⌜ n ≤ 6 ⌝ }
+    requires { ⌜ n ≤ 7 ⌝ }
     requires { ⌜ base ≤ 16 ⌝ }
     ensures { λ r. ⌜ r ≡ numeralFrom base 0 (part (now (s .entry)) at n) ⌝ }
 {
@@ -266,19 +277,15 @@ fn number_reference(s: &[u8], at: usize, base: u8) -> Ref
     if e == at {
         return Ref::Wrong;
     }
-    if 6 < e - at {
+    if 7 < e - at {
         return Ref::Wrong;
     }
     if octets::byte(s, e) != 59 {
         return Ref::Wrong;
     }
     let v = numeral(s, at, e - at, base);
-    if 126 < v {
-        return Ref::Wrong;
-    }
-    let b = v as u8;
-    if may_stand(b) {
-        Ref::Byte(b, e + 1)
+    if characters::is_legal(v) {
+        Ref::Scalar(v, e + 1)
     } else {
         Ref::Wrong
     }
@@ -296,46 +303,132 @@ pub fn reference(s: &[u8], at: usize) -> Ref
     worded(s, at)
 }
 
+// A character of text or of a value, of more than one byte.
+fn wide(s: &[u8], at: usize) -> Ref
+    requires { ⌜ 128 ≤ byteAt (now s) at ⌝ }
+    ensures { λ r. ⌜ r ≡ charAt (now (s .entry)) at ⌝ }
+{
+    let c = characters::scalar(s, at);
+    if c == 0 {
+        return Ref::Wrong;
+    }
+    Ref::Scalar(c, at + characters::bytes_of(c))
+}
+
 // A character of text or of a value.
 pub fn character(s: &[u8], at: usize) -> Ref
     ensures { λ r. ⌜ r ≡ charAt (now (s .entry)) at ⌝ }
 {
     let b = octets::byte(s, at);
     if is_run(b) {
-        return Ref::Byte(b, at + 1);
+        return Ref::Scalar(b as u32, at + 1);
     }
     if b == 38 {
         return reference(s, at);
     }
     if b == 93 {
-        return Ref::Byte(b, at + 1);
+        return Ref::Scalar(93, at + 1);
     }
-    Ref::Wrong
+    if b < 128 {
+        return Ref::Wrong;
+    }
+    wide(s, at)
 }
 
 // ---- what an element holds
 
-fn in_text(s: &[u8], i: usize) -> bool
-    ensures { λ r. ⌜ r ≡ inText (now (s .entry)) i ⌝ }
+// How many bytes the character at i has, if the text goes on there; else 0.
+fn in_text(s: &[u8], i: usize) -> usize
+    ensures { λ r. ⌜ r ≡ pick (inText (now (s .entry)) i) (widthAt (now (s .entry)) i) 0 ⌝ }
 {
     let b = octets::byte(s, i);
     if is_run(b) {
-        return true;
+        return 1;
+    }
+    if 128 <= b {
+        return characters::width_at(s, i);
     }
     if b != 93 {
-        return false;
+        return 0;
     }
-    !octets::stands_at(s, i, b"]]>")
+    if octets::stands_at(s, i, b"]]>") {
+        0
+    } else {
+        1
+    }
 }
 
-fn run(s: &[u8], at: usize) -> usize
-    ensures { λ r. ⌜ r ≡ scan (inText (now (s .entry))) (length (now (s .entry))) at ⌝ }
+// 0 only for a byte of a run of text.
+fn stirs(b: u8) -> u8
+    ensures { λ r. ⌜ (r ≡ 0 → isRun b ≡ true) ⌝ }
+    ensures { λ r. ⌜ r ≤ 5 ⌝ }
 {
-    let mut i = at;
-    while in_text(s, i) {
-        i += 1;
+    let x = octets::under(b, 32)
+        + octets::under(126, b)
+        + octets::equals(b, 38)
+        + octets::equals(b, 60)
+        + octets::equals(b, 93);
+    if octets::equals(b, 10) == 0 { x } else { 0 }
+}
+
+// Whether the sixteen bytes from `at` are of a run of text; some that are may be missed. The test of a byte has no branch, so that a compiler can make it for
+// all of them at once.
+fn is_block(s: &[u8], at: usize) -> bool
+    requires { ⌜ at + 16 ≤ length (now s) ⌝ }
+    ensures { λ r. ⌜ (r ≡ true → Runs (now (s .entry)) at 16) ⌝ }
+{
+    let mut n: u8 = 0;
+    let mut k: usize = 0;
+    while k < 16 {
+        n = n + stirs(s[at + k]);
+        k += 1;
     }
-    i
+    n == 0
+}
+
+// How many bytes from `at` on stand in blocks of a run.
+fn blocks(s: &[u8], at: usize) -> usize
+    ensures { λ r. ⌜ Runs (now (s .entry)) at r ⌝ }
+{
+    let mut n: usize = 0;
+    loop {
+        if s.len() < 16 {
+            return n;
+        }
+        if s.len() - 16 < at {
+            return n;
+        }
+        if s.len() - 16 - at < n {
+            return n;
+        }
+        if !is_block(s, at + n) {
+            return n;
+        }
+        n += 16;
+    }
+}
+
+// White space before a tag is told by itself: nothing else stands between most elements.
+fn run(s: &[u8], at: usize) -> usize
+    ensures { λ r. ⌜ r ≡ through (inText (now (s .entry))) (now (s .entry)) at ⌝ }
+{
+    let j = spaces(s, at);
+    if octets::byte(s, j) == 60 {
+        return j;
+    }
+    let n = blocks(s, j);
+    let mut i = j + n;
+    loop {
+        if is_run(octets::byte(s, i)) {
+            i += 1;
+            continue;
+        }
+        let n = in_text(s, i);
+        if n == 0 {
+            return i;
+        }
+        i += n;
+    }
 }
 
 fn next_tag(s: &[u8], at: usize) -> Piece
@@ -366,7 +459,7 @@ pub fn next_piece(s: &[u8], at: usize) -> Piece
     if b == 38 {
         let r = reference(s, at);
         return match r {
-            Ref::Byte(_, j) => Piece::Text(j),
+            Ref::Scalar(_, j) => Piece::Text(j),
             Ref::Wrong => Piece::Bad,
         };
     }

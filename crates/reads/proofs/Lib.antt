@@ -1,3 +1,4 @@
 pub mod Rows
 pub mod Locals
 pub mod ParameterRows
+pub mod Uris

@@ -4,12 +4,12 @@ use mathlib.Core.Bool.{Bool, true, false, _&&_, _||_, not}
 use mathlib.Core.List.{List, [], _∷_, map}
 use lib.ListN.{length, set}
 use lib.Dec.{eqb, leb}
-use Rattle.octets.specs.Bytes.{pick, between, same}
+use Rattle.octets.specs.Bytes.{pick, every, holds, between, same}
 use Rattle.octets.specs.Text.{bytes}
 use Rattle.octets.specs.declared.Num.{Num}
 use Rattle.octets.specs.declared.Num.the-variants.{Value, Bad}
 use Rattle.values.specs.Value.{valueAt, small}
-use Rattle.values.specs.WorkingSteps.{sixDigits}
+use Rattle.values.specs.WorkingSteps.{isPrintable, sixDigits}
 use Rattle.reads.specs.declared.Leaf.{Leaf}
 use Rattle.reads.specs.declared.Events.{Events}
 use Rattle.reads.specs.declared.Parameters.{Parameters}
@@ -78,9 +78,13 @@ audioOf s n =
     (pick (says s n (bytes "audio/x-ipaws-audio-wav")) 2
     (pick (says s n (bytes "audio/x-ipaws-streaming-audio-mp3")) 3 0))
 
--- and a uri of 1 to 1,024 bytes
+-- a uri: 1 to 1,024 characters of 32 to 126
+unfoldable pub uriOk : List ℕ → Bool
+uriOk v = every holds (between 1 1024 (length v) ∷ every isPrintable v ∷ [])
+
+-- such a mimeType and such a uri
 abbrev pub isAudio : List ℕ → Leaf → Leaf → Bool
-isAudio s mime uri = not (eqb (audioOf s (mime .at)) 0) && between 1 1024 (length (valueAt s (uri .at)))
+isAudio s mime uri = not (eqb (audioOf s (mime .at)) 0) && uriOk (valueAt s (uri .at))
 
 -- a resource: the first that is audio is chosen
 unfoldable pub audioStep : List ℕ → Audio → Leaf → Leaf → Audio

@@ -450,7 +450,7 @@ pub fn audio_step(s: &[u8], e: Audio, mime: Leaf, uri: Leaf) -> Audio
     if number == 0 {
         return e;
     }
-    let long = values::size(s, uri.at);
+    let long = values::printable_size(s, uri.at);
     if long < 1 {
         return e;
     }

@@ -17,21 +17,21 @@ use Rattle.report.proofs.Lengths.{AtMost, lines-le}
 
 pub record Fits (g : Given) : Type 0 where
   pub header : length (g .header) ≤ 252
-  pub text : length (g .text) ≤ 1800
+  pub text : length (g .text) ≤ 7200
   pub uri : length (g .uri) ≤ 1024
 
 pub given-fits : (s station : List ℕ) (h t u : ℕ) → Fits (convertOf s station h t u .given)
 unfolding answerOf
 given-fits s station h t u = let c = convert-small s station h t u in record { header = c .header; text = c .text; uri = c .uri }
 
-pub printed-le : (message : List ℕ) → length (printed (benchOf message)) ≤ 3200
+pub printed-le : (message : List ℕ) → length (printed (benchOf message)) ≤ 8600
 printed-le message =
-    let f = given-fits message (bytes "BENCH/01") 252 1800 1024 in
+    let f = given-fits message (bytes "BENCH/01") 252 7200 1024 in
     lines-le _ _ _ _ _ _ _ (f .header) (f .uri) (f .text)
 
 pub program-le : (room : ℕ) (message : List ℕ) → length (programOf room message) ≤ room
 unfolding programOf
 program-le room message =
-    either-way (AtMost room) (ltb room 4096) [] (printed (benchOf message))
+    either-way (AtMost room) (ltb room 8704) [] (printed (benchOf message))
     (λ e. omega arith)
-    (λ e. omega (arith, ltb-false room 4096 e, printed-le message))
+    (λ e. omega (arith, ltb-false room 8704 e, printed-le message))

@@ -28,10 +28,10 @@ pub lines-printed : (o : Outcome) (r : Converted) {header uri text : List ℕ} �
 unfolding answerOf
 lines-printed o r e h u t = rw (e, h, u, t)
 
-pub program-none : (room : ℕ) (message : List ℕ) → room < 4096 → programOf room message ≡ []
+pub program-none : (room : ℕ) (message : List ℕ) → room < 8704 → programOf room message ≡ []
 unfolding programOf
-program-none room message h = rw (lt-ltb room 4096 h)
+program-none room message h = rw (lt-ltb room 8704 h)
 
-pub program-lines : (room : ℕ) (message : List ℕ) → 4096 ≤ room → programOf room message ≡ printed (benchOf message)
+pub program-lines : (room : ℕ) (message : List ℕ) → 8704 ≤ room → programOf room message ≡ printed (benchOf message)
 unfolding programOf
-program-lines room message h = rw (le-ltb room 4096 h)
+program-lines room message h = rw (le-ltb room 8704 h)

@@ -1,5 +1,5 @@
 -- How long the lines are.
---     lines-le     at most 3,200 bytes
+--     lines-le     at most 8,600 bytes
 use Prim.Native.Nat.{ℕ, _+_, _≤_}
 use mathlib.Core.Bool.{Bool, true, false}
 use mathlib.Core.List.{List, []}
@@ -47,11 +47,11 @@ unfolding carryLine line bytes
 carry-le true = lit≤ tt
 carry-le false = lit≤ tt
 
-alert-le : (header : List ℕ) (audio : ℕ) (uri : List ℕ) (carry : Bool) (text : List ℕ) → length header ≤ 252 → length uri ≤ 1024 → length text ≤ 1800 → length (alertLines header audio uri carry text) ≤ 3114
+alert-le : (header : List ℕ) (audio : ℕ) (uri : List ℕ) (carry : Bool) (text : List ℕ) → length header ≤ 252 → length uri ≤ 1024 → length text ≤ 7200 → length (alertLines header audio uri carry text) ≤ 8514
 unfolding alertLines bytes
-alert-le header audio uri carry text h u t = simp length-append (omega (arith, value-le (bytes "header ") header 252 (lit≤ tt) h, audio-le audio uri 1024 u, carry-le carry, value-le (bytes "text ") text 1800 (lit≤ tt) t))
+alert-le header audio uri carry text h u t = simp length-append (omega (arith, value-le (bytes "header ") header 252 (lit≤ tt) h, audio-le audio uri 1024 u, carry-le carry, value-le (bytes "text ") text 7200 (lit≤ tt) t))
 
-pub lines-le : (number field : ℕ) (header : List ℕ) (audio : ℕ) (uri : List ℕ) (carry : Bool) (text : List ℕ) → length header ≤ 252 → length uri ≤ 1024 → length text ≤ 1800 → length (linesOf number field header audio uri carry text) ≤ 3200
+pub lines-le : (number field : ℕ) (header : List ℕ) (audio : ℕ) (uri : List ℕ) (carry : Bool) (text : List ℕ) → length header ≤ 252 → length uri ≤ 1024 → length text ≤ 7200 → length (linesOf number field header audio uri carry text) ≤ 8600
 unfolding linesOf
 lines-le number field header audio uri carry text h u t =
-    simp length-append (omega (arith, number-le number field, either-way (AtMost 3114) (eqb number 0) (alertLines header audio uri carry text) [] (λ e. alert-le header audio uri carry text h u t) (λ e. lit≤ tt)))
+    simp length-append (omega (arith, number-le number field, either-way (AtMost 8514) (eqb number 0) (alertLines header audio uri carry text) [] (λ e. alert-le header audio uri carry text h u t) (λ e. lit≤ tt)))

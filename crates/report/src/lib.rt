@@ -7,7 +7,7 @@ ghost use Rattle.report.specs.Lines.{decimal, orNone, kindThenUri, audio
 ghost use Rattle.report.specs.Program.{programOf};
 
 // The room that all lines fit.
-const ROOM: usize = 4096;
+const ROOM: usize = 8704;
 
 // ---- words
 
@@ -157,7 +157,7 @@ pub fn program(message: &[u8], out: &mut [u8]) -> usize
         return 0;
     }
     let mut header = [0u8; 252];
-    let mut text = [0u8; 1800];
+    let mut text = [0u8; 7200];
     let mut uri = [0u8; 1024];
     let c = convert::convert(message, b"BENCH/01", &mut header, &mut text, &mut uri);
     let h = c.header;

@@ -1,3 +1,4 @@
 pub mod Lengths
+pub mod Plains
 pub mod Puts
 pub mod Examples

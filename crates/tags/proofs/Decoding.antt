@@ -14,7 +14,7 @@ use Rattle.octets.specs.Bytes.{byteAt, same}
 use Rattle.octets.proofs.Parts.{tail-step}
 use Rattle.octets.proofs.Sames.{same-step, same-stop}
 use Rattle.pieces.specs.Pieces.{charAt}
-use Rattle.pieces.specs.declared.Ref.the-variants.{Byte, Wrong}
+use Rattle.pieces.specs.declared.Ref.the-variants.{Scalar, Wrong}
 use Rattle.pieces.proofs.Goes.{Goes, char-goes}
 use Rattle.tags.specs.Attributes.{characterThen, decodedFrom, decodedAt}
 
@@ -57,22 +57,22 @@ module _ (s w : List ℕ) (q : ℕ) (whole : Bool) (i k : ℕ) (d : Decoding s w
       go zero = refl
       go (suc m) = rw (ne-eqb (byteAt s i) q n, e, decodedFrom)
 
--- a turn of the loop that reads the character b, which ends at j
-pub record Read (s w : List ℕ) (q : ℕ) (whole : Bool) (i k b j : ℕ) : Type 0 where
+-- a turn of the loop that reads the character c, which ends at j
+pub record Read (s w : List ℕ) (q : ℕ) (whole : Bool) (i k c j : ℕ) : Type 0 where
   pub so-far : Decoding s w q whole i k
   pub no-end : byteAt s i ≡ q → ⊥
-  pub is : charAt s i ≡ Byte b j
+  pub is : charAt s i ≡ Scalar c j
 
-module _ {s w : List ℕ} {q : ℕ} {whole : Bool} {i k b j : ℕ} (r : Read s w q whole i k b j) where
+module _ {s w : List ℕ} {q : ℕ} {whole : Bool} {i k c j : ℕ} (r : Read s w q whole i k c j) where
   pub decoding-on : Goes s i j
   decoding-on = rw (r .is) at (char-goes s i)
 
-  step : (m : ℕ) → decodedFrom s q (suc m) i ≡ b ∷ decodedFrom s q m j
+  step : (m : ℕ) → decodedFrom s q (suc m) i ≡ c ∷ decodedFrom s q m j
   unfolding decodedFrom characterThen
   step m = rw (ne-eqb (byteAt s i) q (r .no-end), r .is, decodedFrom)
 
   -- one character and what follows it, whatever is left to take
-  turned : {A : Type 0} → ((m : ℕ) → length s ≤ i + suc m → same (b ∷ decodedFrom s q m j) (drop k w) ≡ whole → A) → A
+  turned : {A : Type 0} → ((m : ℕ) → length s ≤ i + suc m → same (c ∷ decodedFrom s q m j) (drop k w) ≡ whole → A) → A
   turned {A} f = go (r .so-far .fuel) (r .so-far .room) (r .so-far .left)
     where
       go : (m : ℕ) → length s ≤ i + m → same (decodedFrom s q m i) (drop k w) ≡ whole → A
@@ -83,15 +83,15 @@ module _ {s w : List ℕ} {q : ℕ} {whole : Bool} {i k b j : ℕ} (r : Read s w
   unfolding same
   decoding-long h = turned (λ m x l. rw (drop-of-length-le w h) at l)
 
-  pub decoding-not : k < length w → (b ≡ getD w k 0 → ⊥) → false ≡ whole
-  decoding-not h u = turned (λ m x l. sym (same-stop b (getD w k 0) (decodedFrom s q m j) (drop (k + 1) w) u) ∙ rw (tail-step w k h) at l)
+  pub decoding-not : k < length w → (c ≡ getD w k 0 → ⊥) → false ≡ whole
+  decoding-not h u = turned (λ m x l. sym (same-stop c (getD w k 0) (decodedFrom s q m j) (drop (k + 1) w) u) ∙ rw (tail-step w k h) at l)
 
-  pub decoding-more : k < length w → b ≡ getD w k 0 → Decoding s w q whole j (k + 1)
+  pub decoding-more : k < length w → c ≡ getD w k 0 → Decoding s w q whole j (k + 1)
   decoding-more h u = turned (λ m x l.
       let y = decoding-on .on in
       record {
         fuel = m;
         room = omega arith;
         within = omega arith;
-        left = sym (same-step b (getD w k 0) (decodedFrom s q m j) (drop (k + 1) w) u) ∙ rw (tail-step w k h) at l;
+        left = sym (same-step c (getD w k 0) (decodedFrom s q m j) (drop (k + 1) w) u) ∙ rw (tail-step w k h) at l;
       })

@@ -18,7 +18,7 @@ use Rattle.pieces.specs.Pieces.{nameAt, charAt}
 use Rattle.pieces.specs.declared.End.{End}
 use Rattle.pieces.specs.declared.End.the-variants.{At, No}
 use Rattle.pieces.specs.declared.Ref.{Ref}
-use Rattle.pieces.specs.declared.Ref.the-variants.{Byte, Wrong}
+use Rattle.pieces.specs.declared.Ref.the-variants.{Scalar, Wrong}
 use Rattle.pieces.specs.declared.Step.the-variants.{Go, Stop, Stuck}
 use Rattle.pieces.proofs.Words.{inside-is}
 use Rattle.pieces.proofs.Goes.{Goes, PastGoes, EndGoes, RefGoes, space-ge, name-goes, char-goes}
@@ -35,7 +35,7 @@ use Rattle.tags.specs.declared.Open.the-variants.{Full, Empty, Shut}
 
 over-goes : (s : List ℕ) (i : ℕ) (r : Ref) → RefGoes s i r → StepGoes s i (over r)
 unfolding over
-over-goes s i (Byte b j) g = g
+over-goes s i (Scalar c j) g = g
 over-goes s i Wrong g = tt
 
 pub bit-goes : (s : List ℕ) (q : ℕ) → 0 < q → (i : ℕ) → i ≤ length s → StepGoes s i (bitAt s q i)

@@ -11,7 +11,7 @@ use Rattle.pieces.specs.Pieces.{nameAt, charAt}
 use Rattle.pieces.specs.declared.End.{End}
 use Rattle.pieces.specs.declared.End.the-variants.{At, No}
 use Rattle.pieces.specs.declared.Ref.{Ref}
-use Rattle.pieces.specs.declared.Ref.the-variants.{Byte, Wrong}
+use Rattle.pieces.specs.declared.Ref.the-variants.{Scalar, Wrong}
 use Rattle.pieces.specs.declared.Step.{Step}
 use Rattle.pieces.specs.declared.Step.the-variants.{Go, Stop, Stuck}
 use Rattle.tags.specs.declared.Attr.{Attr}
@@ -20,7 +20,7 @@ use Rattle.tags.specs.declared.Attr.the-variants.{Of, Last, None}
 -- ---- values
 
 unfoldable pub over : Ref → Step
-over (Byte b j) = Go j
+over (Scalar c j) = Go j
 over Wrong = Stuck
 
 -- a step through a value that q quotes: to its end, or over a character, which is no `<`
@@ -34,7 +34,7 @@ quotedAt s i =
     pick (eqb q 34) (walkAt (bitAt s 34) s (i + 1)) (pick (eqb q 39) (walkAt (bitAt s 39) s (i + 1)) No)
 
 unfoldable pub characterThen : Ref → (ℕ → List ℕ) → List ℕ
-characterThen (Byte b j) rest = b ∷ rest j
+characterThen (Scalar c j) rest = c ∷ rest j
 characterThen Wrong rest = []
 
 -- the characters up to the quote q from i on, n at most

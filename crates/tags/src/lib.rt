@@ -6,7 +6,7 @@ ghost use mathlib.Core.Path.{_≡_};
 ghost use mathlib.Core.List.{_++_};
 ghost use Prim.Native.Nat.{_+_, _*_, _-_, _≤_, _<_};
 ghost use lib.ListN.{length, getD, set};
-ghost use Rattle.octets.specs.Bytes.{part, same};
+ghost use Rattle.octets.specs.Bytes.{same};
 ghost use Rattle.pieces.specs.Walk.{walkAt};
 ghost use Rattle.tags.specs.Attributes.{bitAt, quotedAt, decodedAt, equalled, attrAt, seekAt, attrNamed};
 ghost use Rattle.tags.specs.Tags.{takeAt, tailAt, openAt, closeAt};
@@ -32,12 +32,16 @@ fn bit(s: &[u8], q: u8, i: usize) -> Step
     requires { ⌜ 0 < q ⌝ }
     ensures { λ r. ⌜ r ≡ bitAt (now (s .entry)) q i ⌝ }
 {
-    if octets::byte(s, i) == q {
+    let b = octets::byte(s, i);
+    if b == q {
         return Step::Stop(i + 1);
+    }
+    if pieces::is_run(b) {
+        return Step::Go(i + 1);
     }
     let r = pieces::character(s, i);
     match r {
-        Ref::Byte(_, j) => Step::Go(j),
+        Ref::Scalar(_, j) => Step::Go(j),
         Ref::Wrong => Step::Stuck,
     }
 }
@@ -81,16 +85,28 @@ pub fn value_is(s: &[u8], at: usize, w: &[u8]) -> bool
     let mut i = at + 1;
     let mut k: usize = 0;
     loop {
-        if octets::byte(s, i) == q {
+        let b = octets::byte(s, i);
+        if b == q {
             return k == w.len();
+        }
+        if pieces::is_run(b) {
+            if k == w.len() {
+                return false;
+            }
+            if b != w[k] {
+                return false;
+            }
+            i += 1;
+            k += 1;
+            continue;
         }
         let r = pieces::character(s, i);
         match r {
-            Ref::Byte(b, j) => {
+            Ref::Scalar(c, j) => {
                 if k == w.len() {
                     return false;
                 }
-                if b != w[k] {
+                if c != (w[k] as u32) {
                     return false;
                 }
                 i = j;

@@ -20,7 +20,7 @@ use Rattle.values.proofs.Steps.{value-past}
 use Rattle.reads.specs.WorkingParameters.{ReadParameter, exactly, readParameters, parameterCount, isOf}
 use Rattle.reads.specs.WorkingLeaves.{noLeaf, found, soundOf, noInfo}
 use Rattle.reads.proofs.ParameterRows.{row-step, rows-long}
-use Rattle.reads.specs.WorkingSteps.{says, eventStep, parameterStep, audioOf, isAudio, audioStep}
+use Rattle.reads.specs.WorkingSteps.{says, eventStep, parameterStep, audioOf, isAudio, audioStep, uriOk}
 use Rattle.reads.specs.declared.Leaf.{Leaf}
 use Rattle.reads.specs.declared.Events.{Events}
 use Rattle.reads.specs.declared.Parameters.{Parameters}
@@ -29,7 +29,7 @@ use Rattle.gather.specs.Read.{Element, named}
 use Rattle.gather.specs.WorkingRead.{leafIn, withEvent, withParameter, withResource, infoOf}
 use Rattle.leaves.proofs.Reals.{AllReal}
 use Rattle.leaves.proofs.Places.{named-real}
-use Rattle.told.specs.Values.{isNone, passing, firstValue, is, Pair, pairOf, eventCodes, parameters, valuesWhere, valuesNamed, pairSound, resourceSound}
+use Rattle.told.specs.Values.{isNone, passing, firstValue, Pair, pairOf, eventCodes, parameters, valuesWhere, valuesNamed, pairSound, resourceSound}
 use Rattle.told.specs.Values.{audioNumber, suitable, Choice, choiceOf, audioIn}
 use Rattle.told.proofs.Folds.{passing-last, values-last, pick-of, step-fault, fold-fault, fold-sound}
 use Rattle.told.proofs.Leaves.{found-count, found-value, leaf-sound, leaf-value, pair-sound}
@@ -207,7 +207,7 @@ module _ (s p : List ℕ) where
 
   resource-chosen : (x : Audio) (ds : List Element) (e : Element) → AllReal s (e .holds) → resourceSound s p e ≡ true
       → Chosen s x (passing suitable (map offer ds)) → Chosen s (withResource s p x e) (passing suitable (map offer (ds ++ (e ∷ []))))
-  unfolding audioStep audioOf
+  unfolding audioStep audioOf uriOk
   resource-chosen x ds e a o h =
       let j = leafIn s p "uri" (e .holds) .at in
       let m = leaf-value s p "mimeType" (e .holds) a in

@@ -143,9 +143,9 @@ languagesSound s p t = every (λ (e : Element). sound s p "language" (e .holds))
 abbrev pub audioNumber : List ℕ → ℕ
 audioNumber v = pick (is "audio/x-ipaws-audio-mp3" v) 1 (pick (is "audio/x-ipaws-audio-wav" v) 2 (pick (is "audio/x-ipaws-streaming-audio-mp3" v) 3 0))
 
--- and a uri of 1 to 1,024 bytes
+-- and a uri of 1 to 1,024 characters of 32 to 126
 abbrev pub suitable : Pair → Bool
-suitable x = not (eqb (audioNumber (x .name)) 0) && between 1 1024 (length (x .value))
+suitable x = not (eqb (audioNumber (x .name)) 0) && every holds (between 1 1024 (length (x .value)) ∷ every (between 32 126) (x .value) ∷ [])
 
 pub record Choice : Type 0 where
   pub number : ℕ

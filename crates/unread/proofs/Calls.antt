@@ -105,7 +105,7 @@ module _ (s r : List ℕ) where
 
     pub same-program : (room : ℕ) → programOf room s ≡ programOf room r
     unfolding programOf
-    same-program room = rw (same-conversion (bytes "BENCH/01") 252 1800 1024)
+    same-program room = rw (same-conversion (bytes "BENCH/01") 252 7200 1024)
 
 pub nothing-unread-matters : NothingUnreadMatters library
 nothing-unread-matters = record { conversion-same = same-conversion; canadian-same = same-canadian; offering-same = same-offering }

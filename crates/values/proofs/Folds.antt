@@ -2,24 +2,27 @@
 --     next-goes                            what stands at a place goes forward and stays inside
 --     along                                a fact of every place, from what stands there and the fact of where that ends
 --     fold-char, fold-over, fold-last      a fold, by what stands at its place
---     plain-next, char-next, tag-next      what stands at a place, by its byte
+--     byte-next, char-next, tag-next      what stands at a place, by its byte
 use Prim.Native.Nat.{ℕ, zero, suc, _+_, _<_, _≤_}
-use mathlib.Core.Path.{_≡_, refl, sym, ap, _∙_}
+use mathlib.Core.Path.{_≡_, refl, sym, ap, ap₂, _∙_}
 use mathlib.Core.Bool.{Bool, true, false}
 use mathlib.Core.List.{List}
 use native.Mathlib.Omega.{arith}
 use lib.ListN.{length, List·getD-eq-default}
 use lib.Dec.{eqb}
 use borrow.Author.Tests.{eqb-true, ne-eqb}
-use Rattle.octets.specs.Bytes.{pick, every, between, oneOf, byteAt, isSpace, isVisible}
-use Rattle.pieces.specs.Classes.{mayStand, isPlain}
+use Rattle.octets.specs.Bytes.{pick, every, between, oneOf, byteAt}
+use Rattle.characters.specs.Utf8.{isLegal, width, scalarAt, isSingle}
+use Rattle.characters.proofs.Places.{stands-for, single-is, single-width}
+use Rattle.characters.proofs.Chars.{scalar-past}
+use Rattle.pieces.specs.Classes.{isPlain}
 use Rattle.pieces.specs.Pieces.{noteAt, charAt}
 use Rattle.pieces.specs.declared.End.{End}
 use Rattle.pieces.specs.declared.End.the-variants.{At, No}
 use Rattle.pieces.specs.declared.Ref.{Ref}
-use Rattle.pieces.specs.declared.Ref.the-variants.{Byte, Wrong}
+use Rattle.pieces.specs.declared.Ref.the-variants.{Scalar, Wrong}
 use Rattle.pieces.proofs.Goes.{Goes, PastGoes, RefGoes, note-goes, char-goes}
-use Rattle.pieces.proofs.Inside.{plain-no-reference}
+use Rattle.pieces.proofs.Inside.{plain-no-reference, none-plain, plain-steps}
 use Rattle.values.specs.Chars.{met, passed, nextAt, turn, fold, foldAt}
 use Rattle.values.specs.declared.Next.{Next}
 use Rattle.values.specs.declared.Next.the-variants.{Char, Over, Last}
@@ -33,7 +36,7 @@ NextGoes s i Last = Unit {0}
 
 met-goes : (s : List ℕ) (i : ℕ) (r : Ref) → RefGoes s i r → NextGoes s i (met r)
 unfolding met
-met-goes s i (Byte c j) g = g
+met-goes s i (Scalar c j) g = g
 met-goes s i Wrong g = tt
 
 passed-goes : (s : List ℕ) (i : ℕ) (e : End) → PastGoes s i e → NextGoes s i (passed e)
@@ -57,16 +60,16 @@ over-forth s i j e = rw e at (next-goes s i)
 
 -- nothing stands past the end
 pub next-past : (s : List ℕ) (i : ℕ) → length s ≤ i → nextAt s i ≡ Last
-unfolding nextAt met charAt isPlain mayStand isSpace isVisible between every oneOf
-next-past s i h = let e : byteAt s i ≡ 0 = List·getD-eq-default s 0 h in rw e
+unfolding nextAt met charAt
+next-past s i h = let e : byteAt s i ≡ 0 = List·getD-eq-default s 0 h in rw (e, scalar-past s i h, none-plain)
 
 module _ (s : List ℕ) (i : ℕ) where
   tag-wrong : eqb (byteAt s i) 60 ≡ true → charAt s i ≡ Wrong
-  unfolding charAt isPlain mayStand isSpace isVisible between every oneOf
-  tag-wrong h = let e : byteAt s i ≡ 60 = eqb-true (byteAt s i) 60 h in rw e
+  unfolding charAt isPlain isSingle isLegal between every oneOf
+  tag-wrong h = let e : scalarAt s i ≡ 60 = stands-for s i 60 refl (eqb-true (byteAt s i) 60 h) in rw e
 
   -- a character that pieces reads
-  pub char-next : (c j : ℕ) → charAt s i ≡ Byte c j → nextAt s i ≡ Char c j
+  pub char-next : (c j : ℕ) → charAt s i ≡ Scalar c j → nextAt s i ≡ Char c j
   unfolding nextAt met
   char-next c j q = go (eqb (byteAt s i) 60) refl
     where
@@ -74,13 +77,18 @@ module _ (s : List ℕ) (i : ℕ) where
       go true h = let z : _≡_ {A = ℕ} 0 1 = cc (tag-wrong h) in absurd (omega arith)
       go false h = rw q
 
-  -- a byte that stands for itself
-  pub plain-char : isPlain (byteAt s i) ≡ true → charAt s i ≡ Byte (byteAt s i) (i + 1)
+  -- a character that stands for itself
+  pub plain-char : isPlain (scalarAt s i) ≡ true → charAt s i ≡ Scalar (scalarAt s i) (i + width (scalarAt s i))
   unfolding charAt
-  plain-char h = rw (ne-eqb (byteAt s i) 38 (plain-no-reference (byteAt s i) h), h)
+  plain-char h = rw (ne-eqb (scalarAt s i) 38 (plain-no-reference (scalarAt s i) h), h)
 
-  pub plain-next : isPlain (byteAt s i) ≡ true → nextAt s i ≡ Char (byteAt s i) (i + 1)
-  plain-next h = char-next (byteAt s i) (i + 1) (plain-char h)
+  -- and one of a single byte
+  pub byte-next : isSingle (byteAt s i) ≡ true → isPlain (byteAt s i) ≡ true → nextAt s i ≡ Char (byteAt s i) (i + 1)
+  byte-next b h =
+      let e = single-is s i b in
+      let p : isPlain (scalarAt s i) ≡ true = ap isPlain e ∙ h in
+      let w : i + width (scalarAt s i) ≡ i + 1 = ap (λ (n : ℕ). i + n) (sym (plain-steps s i p .is) ∙ single-width s i b) in
+      char-next (byteAt s i) (i + 1) (plain-char p ∙ ap₂ (λ (c j : ℕ). Scalar c j) e w)
 
   -- a tag is a comment or the end
   pub tag-next : eqb (byteAt s i) 60 ≡ true → (e : End) → noteAt s i ≡ e → nextAt s i ≡ passed e

@@ -2,6 +2,9 @@ pub mod Folds
 pub mod Texts
 pub mod Adds
 pub mod Steps
+pub mod Legal
 pub mod Loops
+pub mod Printables
+pub mod Calms
 pub mod Copies
 pub mod Examples

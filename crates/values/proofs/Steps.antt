@@ -1,27 +1,29 @@
 -- The value of a leaf, character by character.
 --     value-start                from its first character on, the rest is the value
 --     step-more, step-done       a step gives the rest's first character and goes to the rest behind it, or there is none
---     rest-some, rest-none       whether a step is left
 --     value-past                 past the message's end the value is empty
 --     gap-.., step-..            what follows white space, and a step, by what stands at the place
 use Prim.Native.Nat.{ℕ, _+_, _<_, _≤_}
 use mathlib.Core.Path.{_≡_, refl, sym, ap, _∙_}
-use mathlib.Core.Bool.{Bool, true, false, not, true≢false}
+use mathlib.Core.Bool.{Bool, true, false}
 use mathlib.Core.List.{List, [], _∷_}
 use native.Mathlib.Omega.{arith}
 use lib.ListN.{length}
-use borrow.Author.Tests.{ne-eqb}
-use Rattle.octets.specs.Bytes.{byteAt, same, oneOf, isSpace, isVisible}
-use Rattle.octets.proofs.Tests.{and-left, and-right, between-low}
-use Rattle.pieces.specs.Classes.{mayStand, isPlain}
+use borrow.Author.Tests.{lt-ltb}
+use Rattle.octets.specs.Bytes.{byteAt, same, every, between, oneOf, isSpace}
+use Rattle.characters.specs.Utf8.{isLegal, isSingle}
+use Rattle.characters.proofs.Legals.{legal-basic}
+use Rattle.calm.specs.WorkingCalm.{isMark}
+use Rattle.calm.proofs.Marks.{mark-least, mark-most, mark-other, mark-shows, white}
+use Rattle.pieces.specs.Classes.{isPlain}
 use Rattle.pieces.proofs.Goes.{Goes}
 use Rattle.values.specs.Chars.{nextAt, textAt}
 use Rattle.values.specs.Value.{trimmed, spaced, runs, collapsed, valueAt}
-use Rattle.values.specs.WorkingSteps.{restAt, gapAt, stepAt, placed, leadAt, isMark}
+use Rattle.values.specs.WorkingSteps.{restAt, gapAt, stepAt, placed, leadAt}
 use Rattle.values.specs.declared.Next.the-variants.{Char, Over, Last}
 use Rattle.values.specs.declared.Got.{Got}
 use Rattle.values.specs.declared.Got.the-variants.{Is, Done}
-use Rattle.values.proofs.Folds.{char-forth, over-forth, along, fold-char, fold-over, fold-last, plain-next}
+use Rattle.values.proofs.Folds.{char-forth, over-forth, along, fold-char, fold-over, fold-last, byte-next}
 use Rattle.values.proofs.Texts.{text-char, text-over, text-last, text-past}
 
 module _ (s : List ℕ) where
@@ -217,48 +219,47 @@ module _ (s : List ℕ) where
   pub step-done : (i : ℕ) → stepAt s i ≡ Done → restAt s i ≡ []
   step-done i e = rw e at (step-spells i)
 
-  -- whether the rest has a character
-  pub rest-some : (i c j : ℕ) → stepAt s i ≡ Is c j → same (restAt s i) [] ≡ false
-  unfolding same
-  rest-some i c j e = ap (λ (v : List ℕ). same v []) (step-more i c j e .0)
-
-  pub rest-none : (i : ℕ) → stepAt s i ≡ Done → same (restAt s i) [] ≡ true
-  unfolding same
-  rest-none i e = ap (λ (v : List ℕ). same v []) (step-done i e)
-
 -- ---- a byte that is a character as it stands
 
-mark-shows : (b : ℕ) → isMark b ≡ true → isSpace b ≡ false
-unfolding isMark isVisible isSpace oneOf
-mark-shows b h =
-    let l = between-low 33 126 b (and-left (isVisible b) (not (oneOf (60 ∷ 38 ∷ []) b)) h) in
-    rw (ne-eqb b 9 (omega arith), ne-eqb b 10 (omega arith), ne-eqb b 13 (omega arith), ne-eqb b 32 (omega arith))
+module _ (b : ℕ) (h : isMark b ≡ true) where
+  mark-legal : isLegal b ≡ true
+  mark-legal = let l = mark-least b h in let m = mark-most b h in sym (legal-basic b (omega arith) (omega arith))
 
-mark-plain : (b : ℕ) → isMark b ≡ true → isPlain b ≡ true
-unfolding isMark isPlain mayStand
-mark-plain b h =
-    let v = and-left (isVisible b) (not (oneOf (60 ∷ 38 ∷ []) b)) h in
-    let n = and-right (isVisible b) (not (oneOf (60 ∷ 38 ∷ []) b)) h in
-    rw (mark-shows b h, v, n)
+  mark-single : isSingle b ≡ true
+  unfolding isSingle
+  mark-single = let m = mark-most b h in rw (lt-ltb b 128 (omega arith)) mark-legal
+
+  mark-plain : isPlain b ≡ true
+  unfolding isPlain
+  mark-plain = rw (mark-legal, mark-other b h)
+
+pub mark-next : (s : List ℕ) (i : ℕ) → isMark (byteAt s i) ≡ true → nextAt s i ≡ Char (byteAt s i) (i + 1)
+mark-next s i h = byte-next s i (mark-single (byteAt s i) h) (mark-plain (byteAt s i) h)
 
 pub mark-step : (s : List ℕ) (i : ℕ) → isMark (byteAt s i) ≡ true → stepAt s i ≡ Is (byteAt s i) (i + 1)
-mark-step s i h = step-is s i (byteAt s i) (i + 1) (plain-next s i (mark-plain (byteAt s i) h)) (mark-shows (byteAt s i) h)
+mark-step s i h = step-is s i (byteAt s i) (i + 1) (mark-next s i h) (mark-shows (byteAt s i) h)
+
+-- the first character of a value that begins with a mark
+module _ (s : List ℕ) (i : ℕ) (h : isMark (byteAt s i) ≡ true) where
+  mark-gap : gapAt s i ≡ Is 32 i
+  mark-gap = gap-here s i (byteAt s i) (i + 1) (mark-next s i h) (mark-shows (byteAt s i) h)
+
+  pub mark-lead : leadAt s i ≡ i
+  unfolding leadAt placed
+  mark-lead = ap (placed (length s)) mark-gap
+
+  pub mark-some : same (valueAt s i) [] ≡ false
+  mark-some = value-some s i 32 i mark-gap
+
+-- ---- white space
+
+pub white-next : (s : List ℕ) (i : ℕ) → isSpace (byteAt s i) ≡ true → nextAt s i ≡ Char (byteAt s i) (i + 1)
+unfolding isPlain isSingle isLegal between every oneOf
+white-next s i h = byte-next s i (white (byteAt s i) (λ (b : ℕ). isSingle b ≡ true) h refl refl refl refl) (white (byteAt s i) (λ (b : ℕ). isPlain b ≡ true) h refl refl refl refl)
 
 -- white space before a mark
-space-none : (isSpace 60 ≡ false) × (isSpace 38 ≡ false)
-unfolding isSpace oneOf
-space-none = (refl, refl)
-
-space-differs : (b k : ℕ) → isSpace b ≡ true → isSpace k ≡ false → b ≡ k → ⊥
-space-differs b k h n e = true≢false (sym h ∙ ap isSpace e ∙ n)
-
-space-plain : (b : ℕ) → isSpace b ≡ true → isPlain b ≡ true
-unfolding isPlain mayStand oneOf
-space-plain b h =
-    rw (h, ne-eqb b 60 (space-differs b 60 h (space-none .0)), ne-eqb b 38 (space-differs b 38 h (space-none .1)))
-
 pub space-step : (s : List ℕ) (i : ℕ) → isSpace (byteAt s i) ≡ true → isMark (byteAt s (i + 1)) ≡ true → stepAt s i ≡ Is 32 (i + 1)
 space-step s i e h =
     let n = byteAt s (i + 1) in
-    step-gap s i (byteAt s i) (i + 1) (plain-next s i (space-plain (byteAt s i) e)) e
-    ∙ gap-here s (i + 1) n (i + 1 + 1) (plain-next s (i + 1) (mark-plain n h)) (mark-shows n h)
+    step-gap s i (byteAt s i) (i + 1) (white-next s i e) e
+    ∙ gap-here s (i + 1) n (i + 1 + 1) (mark-next s (i + 1) h) (mark-shows n h)

@@ -3,34 +3,35 @@ use octets::Num;
 use pieces::End;
 use pieces::Ref;
 ghost use mathlib.Core.Path.{_≡_};
-ghost use mathlib.Core.Bool.{true, not};
 ghost use mathlib.Core.List.{[], map};
 ghost use Prim.Native.Nat.{_+_, _≤_};
-ghost use lib.Dec.{ltb};
 ghost use lib.ListN.{length, take};
 ghost use lib.Seq.{sets};
-ghost use Rattle.octets.specs.Bytes.{byteAt, same, isSpace};
+ghost use lib.Dec.{ltb};
+ghost use Rattle.octets.specs.Bytes.{same};
+ghost use Rattle.characters.specs.Utf8.{utf8};
 ghost use Rattle.values.specs.Chars.{nextAt};
 ghost use Rattle.values.specs.Value.{valueAt, small};
-ghost use Rattle.values.specs.WorkingSteps.{restAt, leadAt, gapAt, stepAt, form, sixDigits, isMark};
+ghost use Rattle.values.specs.WorkingSteps.{restAt, leadAt, gapAt, stepAt, form, low, printableSize, sixDigits, spelledOf};
 
 // What stands at a place of a text: a character and where the next stands, a comment and where it ends, or the end.
 pub enum Next {
-    Char(u8, usize),
+    Char(u32, usize),
     Over(usize),
     Last,
 }
 
 // The next character of a value and where the one after it stands, or that there is none.
 pub enum Got {
-    Is(u8, usize),
+    Is(u32, usize),
     Done,
 }
 
-// What has been put of a value: how many characters, and whether it has more.
-pub struct Filled {
+// What was put of a value: how many characters, where their bytes end, and where the value goes on.
+pub struct Spelled {
     pub count: usize,
-    pub more: bool,
+    pub end: usize,
+    pub next: usize,
 }
 
 // ---- reading forward
@@ -38,12 +39,12 @@ pub struct Filled {
 fn look(s: &[u8], at: usize) -> Next
     ensures { λ r. ⌜ r ≡ nextAt (now (s .entry)) at ⌝ }
 {
-    let r = pieces::character(s, at);
-    if let Ref::Byte(c, j) = r {
-        return Next::Char(c, j);
-    }
     if octets::byte(s, at) != 60 {
-        return Next::Last;
+        let r = pieces::character(s, at);
+        return match r {
+            Ref::Scalar(c, j) => Next::Char(c, j),
+            Ref::Wrong => Next::Last,
+        };
     }
     let n = pieces::note(s, at);
     match n {
@@ -61,7 +62,7 @@ fn gap(s: &[u8], at: usize) -> Got
         let n = look(s, i);
         match n {
             Next::Char(c, j) => {
-                if !octets::is_space(c) {
+                if !characters::is_space(c) {
                     return Got::Is(32, i);
                 }
                 i = j;
@@ -72,10 +73,13 @@ fn gap(s: &[u8], at: usize) -> Got
     }
 }
 
-// Where the first character of the value stands.
+// Where the first character of the value stands: here, at a mark.
 pub fn lead(s: &[u8], at: usize) -> usize
     ensures { λ r. ⌜ r ≡ leadAt (now (s .entry)) at ⌝ }
 {
+    if calm::is_mark(octets::byte(s, at)) {
+        return at;
+    }
     let g = gap(s, at);
     match g {
         Got::Is(_, j) => j,
@@ -91,7 +95,7 @@ fn slow(s: &[u8], at: usize) -> Got
         let n = look(s, i);
         match n {
             Next::Char(c, j) => {
-                if octets::is_space(c) {
+                if characters::is_space(c) {
                     return gap(s, j);
                 }
                 return Got::Is(c, j);
@@ -102,50 +106,18 @@ fn slow(s: &[u8], at: usize) -> Got
     }
 }
 
-fn is_mark(b: u8) -> bool
-    ensures { λ r. ⌜ r ≡ isMark b ⌝ }
-{
-    if b == 60 {
-        return false;
-    }
-    if b == 38 {
-        return false;
-    }
-    octets::is_visible(b)
-}
-
-// The next character of the value from white space: at once where a mark follows.
-fn from_space(s: &[u8], at: usize) -> Got
-    requires { ⌜ isSpace (byteAt (now s) at) ≡ true ⌝ }
-    ensures { λ r. ⌜ r ≡ stepAt (now (s .entry)) at ⌝ }
-{
-    let next = at + 1;
-    if is_mark(octets::byte(s, next)) {
-        return Got::Is(32, next);
-    }
-    slow(s, at)
-}
-
-// The next character of the value from a place where b stands, which is no mark: white space before a mark at once, all else by `slow`.
-fn from_other(s: &[u8], at: usize, b: u8) -> Got
-    requires { ⌜ b ≡ byteAt (now s) at ⌝ }
-    ensures { λ r. ⌜ r ≡ stepAt (now (s .entry)) at ⌝ }
-{
-    if octets::is_space(b) {
-        return from_space(s, at);
-    }
-    slow(s, at)
-}
-
-// The next character of the value from a place in it: a mark at once.
+// The next character of the value from a place in it: a mark, and white space before a mark, at once.
 pub fn step(s: &[u8], at: usize) -> Got
     ensures { λ r. ⌜ r ≡ stepAt (now (s .entry)) at ⌝ }
 {
     let b = octets::byte(s, at);
-    if is_mark(b) {
-        return Got::Is(b, at + 1);
+    if calm::is_mark(b) {
+        return Got::Is(b as u32, at + 1);
     }
-    from_other(s, at, b)
+    if calm::is_calm(s, at) {
+        return Got::Is(32, at + 1);
+    }
+    slow(s, at)
 }
 
 // ---- the value
@@ -153,6 +125,9 @@ pub fn step(s: &[u8], at: usize) -> Got
 pub fn is_empty(s: &[u8], at: usize) -> bool
     ensures { λ r. ⌜ r ≡ same (valueAt (now (s .entry)) at) [] ⌝ }
 {
+    if calm::is_mark(octets::byte(s, at)) {
+        return false;
+    }
     let g = gap(s, at);
     match g {
         Got::Is(_, _) => false,
@@ -160,35 +135,56 @@ pub fn is_empty(s: &[u8], at: usize) -> bool
     }
 }
 
-// How many characters the value has.
+// How many characters the value has: runs of calm bytes, and what stands between them.
 pub fn size(s: &[u8], at: usize) -> usize
     ensures { λ r. ⌜ r ≡ length (valueAt (now (s .entry)) at) ⌝ }
 {
     let mut i = lead(s, at);
     let mut k: usize = 0;
     loop {
-        let b = octets::byte(s, i);
-        if is_mark(b) {
-            i += 1;
-            k += 1;
-            continue;
-        }
-        let g = from_other(s, i, b);
+        let n = calm::calm(s, i, s.len());
+        let g = slow(s, i + n);
         let Got::Is(_, j) = g else {
-            return k;
+            return k + n;
         };
         i = j;
-        k += 1;
+        k += n + 1;
     }
 }
 
-fn form_of(any: bool, c: u8) -> u8
+// How many characters the value has if each is of 32 to 126, and 0 if one is not.
+pub fn printable_size(s: &[u8], at: usize) -> usize
+    ensures { λ r. ⌜ r ≡ printableSize (valueAt (now (s .entry)) at) ⌝ }
+{
+    let mut i = lead(s, at);
+    let mut k: usize = 0;
+    loop {
+        let n = calm::calm(s, i, s.len());
+        let g = slow(s, i + n);
+        let Got::Is(c, j) = g else {
+            return k + n;
+        };
+        if c < 32 {
+            return 0;
+        }
+        if 126 < c {
+            return 0;
+        }
+        i = j;
+        k += n + 1;
+    }
+}
+
+fn form_of(any: bool, c: u32) -> u32
     ensures { λ r. ⌜ r ≡ form any c ⌝ }
 {
     if !any {
         return c;
     }
-    if octets::is_capital(c) { c + 32 } else { c }
+    if c < 65 {
+        return c;
+    }
+    if c <= 90 { c + 32 } else { c }
 }
 
 fn matches(s: &[u8], at: usize, w: &[u8], any: bool) -> bool
@@ -204,7 +200,8 @@ fn matches(s: &[u8], at: usize, w: &[u8], any: bool) -> bool
         if k == w.len() {
             return false;
         }
-        if form_of(any, c) != w[k] {
+        let y = w[k];
+        if form_of(any, c) != (y as u32) {
             return false;
         }
         i = j;
@@ -226,59 +223,47 @@ pub fn equal_any_case(s: &[u8], at: usize, w: &[u8]) -> bool
     matches(s, at, w, true)
 }
 
-// Whether the value has a character more at a place in it.
-fn goes_on(s: &[u8], at: usize) -> bool
-    ensures { λ r. ⌜ r ≡ not (same (restAt (now (s .entry)) at) []) ⌝ }
+// ---- a value that is asked for bytes
+
+// A character as one byte keeps it: its low eight bits where it is below 128.
+pub fn low_of(c: u32) -> u8
+    ensures { λ r. ⌜ r ≡ low c ⌝ }
 {
-    let g = step(s, at);
-    match g {
-        Got::Is(_, _) => true,
-        Got::Done => false,
-    }
+    let b = (c % 256) as u8;
+    if c < 128 { b } else { 0 }
 }
 
-// Puts at most g characters of the value into `out` at `to`.
-pub fn fill(s: &[u8], at: usize, g: usize, out: &mut [u8], to: usize) -> Filled
-    requires { ⌜ to + length (take g (valueAt (now s) at)) ≤ length (now out) ⌝ }
-    ensures { λ r. ⌜ r .count ≡ length (take g (valueAt (now (s .entry)) at)) ⌝ }
-    ensures { λ r. ⌜ r .more ≡ ltb g (length (valueAt (now (s .entry)) at)) ⌝ }
-    ensures { λ _. ⌜ now (out .exit) ≡ sets (now (out .entry)) to (take g (valueAt (now (s .entry)) at)) ⌝ }
+// Puts at most g characters of a value, from a place in it, into `out` at `to`, each as one byte, and says how many.
+fn copy_rest(s: &[u8], at: usize, g: usize, out: &mut [u8], to: usize) -> usize
+    requires { ⌜ to + length (take g (restAt (now s) at)) ≤ length (now out) ⌝ }
+    ensures { λ r. ⌜ r ≡ length (take g (restAt (now (s .entry)) at)) ⌝ }
+    ensures { λ _. ⌜ now (out .exit) ≡ sets (now (out .entry)) to (map low (take g (restAt (now (s .entry)) at))) ⌝ }
 {
-    let mut i = lead(s, at);
+    let mut i = at;
     let mut k: usize = 0;
     while k < g {
-        let b = octets::byte(s, i);
-        if is_mark(b) {
-            out[to + k] = b;
-            i += 1;
-            k += 1;
-            continue;
-        }
-        let x = from_other(s, i, b);
+        let x = step(s, i);
         let Got::Is(c, j) = x else {
-            return Filled {
-                count: k,
-                more: false,
-            };
+            return k;
         };
-        out[to + k] = c;
+        out[to + k] = low_of(c);
         i = j;
         k += 1;
     }
-    Filled {
-        count: k,
-        more: goes_on(s, i),
-    }
+    k
 }
 
-// Puts at most g characters of the value into `out` at `to`, and says how many.
+// Puts at most g characters of the value into `out` at `to`, each as one byte, and says how many. What is copied is short, so that only the blocks it begins with are
+// put at once.
 pub fn copy(s: &[u8], at: usize, g: usize, out: &mut [u8], to: usize) -> usize
     requires { ⌜ to + length (take g (valueAt (now s) at)) ≤ length (now out) ⌝ }
     ensures { λ r. ⌜ r ≡ length (take g (valueAt (now (s .entry)) at)) ⌝ }
-    ensures { λ _. ⌜ now (out .exit) ≡ sets (now (out .entry)) to (take g (valueAt (now (s .entry)) at)) ⌝ }
+    ensures { λ _. ⌜ now (out .exit) ≡ sets (now (out .entry)) to (map low (take g (valueAt (now (s .entry)) at))) ⌝ }
 {
-    let f = fill(s, at, g, out, to);
-    f.count
+    let i = lead(s, at);
+    let n = calm::calm_blocks(s, i, g);
+    calm::put_calm(s, i, n, out, to);
+    n + copy_rest(s, i + n, g - n, out, to + n)
 }
 
 // The number that the value writes in six digits.
@@ -291,4 +276,59 @@ pub fn six_digits(s: &[u8], at: usize) -> Num
         return Num::Bad;
     }
     octets::number(&d, 0, 6)
+}
+
+// ---- a value put into a text
+
+// Puts at most g characters of a value, from a place in it, into `out` from `to` on, in UTF-8.
+pub fn spell(s: &[u8], at: usize, g: usize, out: &mut [u8], to: usize) -> Spelled
+    requires { ⌜ to + length (utf8 (take g (restAt (now s) at))) ≤ length (now out) ⌝ }
+    ensures { λ r. ⌜ r ≡ spelledOf (now (s .entry)) at g to ⌝ }
+    ensures { λ _. ⌜ now (out .exit) ≡ sets (now (out .entry)) to (utf8 (take g (restAt (now (s .entry)) at))) ⌝ }
+{
+    let mut i = at;
+    let mut k: usize = 0;
+    let mut e = to;
+    loop {
+        let n = calm::calm(s, i, g - k);
+        calm::put_calm(s, i, n, out, e);
+        i += n;
+        k += n;
+        e += n;
+        if k == g {
+            return Spelled {
+                count: k,
+                end: e,
+                next: i,
+            };
+        }
+        let x = slow(s, i);
+        let Got::Is(c, j) = x else {
+            return Spelled {
+                count: k,
+                end: e,
+                next: i,
+            };
+        };
+        e = characters::put_scalar(out, e, c);
+        i = j;
+        k += 1;
+    }
+}
+
+// Whether a value has more than n characters left from a place in it.
+pub fn exceeds(s: &[u8], at: usize, n: usize) -> bool
+    ensures { λ r. ⌜ r ≡ ltb n (length (restAt (now (s .entry)) at)) ⌝ }
+{
+    let mut i = at;
+    let mut k: usize = 0;
+    while k <= n {
+        let g = step(s, i);
+        let Got::Is(_, j) = g else {
+            return false;
+        };
+        i = j;
+        k += 1;
+    }
+    true
 }

@@ -1,24 +1,26 @@
 -- A value after one space, and a value cut.
 --     plain-short, plain-append            what is cut at 1,800 in all, and what then follows
 --     plain-next                           a value put behind it
---     part-behind                          a space and characters behind it, as two calls put them
---     part-none, part-put, part-marked     what is put of a value, by whether it is empty, fits or is cut
+--     cut-two                              a cut in two: all but three characters, and its end
+--     part-none, part-some                 what is put of a value, by whether it is empty
 --     part-long                            how long that is
 use Prim.Native.Nat.{ℕ, suc, _+_, _-_, _≤_, _<_, min}
 use mathlib.Core.Bool.{Bool, true, false}
-use mathlib.Core.List.{List, [], _∷_, _++_, append-assoc, append-nil}
-use mathlib.Core.Path.{_≡_, refl, sym, ap, ap₂, _∙_}
+use mathlib.Core.List.{List, [], _∷_, _++_, append-nil}
+use mathlib.Core.Path.{_≡_, refl, sym, ap, _∙_}
 use native.Mathlib.Decide.{decLe, decLt}
 use native.Mathlib.Omega.{arith}
+use lib.Dec.{ltb}
 use lib.ListN.{length, take, drop, length-append, length-take, length-drop, take-append-drop}
-use lib.Seq.{sets, sets-eq, length-sets, take-at, drop-at, take-all, take-append-le, take-append-add, take-nil, length-take-le, take-take}
-use borrow.Author.Tests.{le-leb, lt-leb}
-use Rattle.octets.proofs.Runs.{Run, sets-append, behind}
+use lib.Seq.{take-all, take-append-le, take-append-add, take-nil}
+use borrow.Author.Tests.{le-leb, lt-leb, lt-ltb, le-ltb, ltb-true, ltb-false}
 use Rattle.octets.proofs.Sames.{same-is}
 use Rattle.octets.specs.Bytes.{same}
 use Rattle.octets.specs.Text.{bytes}
-use Rattle.sentence.proofs.Puts.{Put, first, next, put-all}
+use Rattle.wording.proofs.Pens.{PenPut, Penned, pen-first, pen-next, pen-all, pen-count}
 use Rattle.wording.specs.Text.{most, plain, empty, afterSpace, one, cut}
+use Rattle.wording.specs.WorkingPen.{startPen, penAfter, lastOf}
+use Rattle.wording.specs.declared.Pen.{Pen}
 
 -- ---- empty or not
 
@@ -64,11 +66,12 @@ plain-append a b = go (decLe (length a) most)
         take-append-le most a b (omega arith) ∙ sym (append-nil (plain a)) ∙ ap (λ (n : ℕ). plain a ++ take n b) (sym full)
 
 -- a value after one space, put behind what is cut
-pub plain-next : (a v : List ℕ) {d x y : List ℕ} {e f : ℕ} → Run d 0 (plain a) x e → Put x e (take (most - e) (afterSpace v)) y f → Run d 0 (plain (a ++ afterSpace v)) y f
-plain-next a v {d} {x} {y} {e} r p =
-    let n : e ≡ length (plain a) = omega (arith, r .ends) in
-    let t = next r (take (most - e) (afterSpace v)) p in
-    first d 0 (plain (a ++ afterSpace v)) (put-all t _ (plain-append a (afterSpace v) ∙ ap (λ (k : ℕ). plain a ++ take (most - k) (afterSpace v)) (sym n)))
+pub plain-next : (a v : List ℕ) {d x y : List ℕ} {e f : Pen}
+    → Penned d startPen (plain a) x e → PenPut x e (take (most - e .count) (afterSpace v)) y f → Penned d startPen (plain (a ++ afterSpace v)) y f
+plain-next a v {d} {e = e} r p =
+    let n : e .count ≡ length (plain a) = omega (arith, pen-count startPen (plain a) (r .ends)) in
+    let t = pen-next r (take (most - e .count) (afterSpace v)) p in
+    pen-first d startPen (plain (a ++ afterSpace v)) (pen-all t _ (plain-append a (afterSpace v) ∙ ap (λ (k : ℕ). plain a ++ take (most - k) (afterSpace v)) (sym n)))
 
 -- what is left of a value after one space: nothing where the text is full or the value empty
 
@@ -85,23 +88,30 @@ spaced-some v h n l =
     ap (λ (k : ℕ). take k (afterSpace v)) m ∙ ap (take (suc (1799 - n))) (after-some v (some-long v h))
 
 -- by what has been put of it, whether a value is there
-pub value-there : (v : List ℕ) (n e : ℕ) → e ≡ n + length (take (most - n) (afterSpace v)) → (e ≡ n → ⊥) → empty v ≡ false
-value-there v n e h k = go (empty v) refl
-  where
-    go : (b : Bool) → empty v ≡ b → empty v ≡ false
-    go true t = absurd (k (omega (arith, h, ap length (spaced-none v t (most - n)))))
-    go false t = t
+module _ (v : List ℕ) (pen : Pen) {e : Pen} (h : e ≡ penAfter pen (take (most - pen .count) (afterSpace v))) where
+  counted : e .count ≡ pen .count + length (take (most - pen .count) (afterSpace v))
+  counted = pen-count pen (take (most - pen .count) (afterSpace v)) h
 
-pub value-absent : (v : List ℕ) (n e : ℕ) → e ≡ n + length (take (most - n) (afterSpace v)) → n < most → e ≡ n → empty v ≡ true
-value-absent v n e h l k = go (empty v) refl
-  where
-    go : (b : Bool) → empty v ≡ b → empty v ≡ true
-    go true t = t
-    go false t = absurd (omega (arith, h, k, ap length (spaced-some v t n l)))
+  pub value-there : (e .count ≡ pen .count → ⊥) → empty v ≡ false
+  value-there k = go (empty v) refl
+    where
+      go : (b : Bool) → empty v ≡ b → empty v ≡ false
+      go true t = absurd (k (omega (arith, counted, ap length (spaced-none v t (most - pen .count)))))
+      go false t = t
+
+  pub value-absent : pen .count < most → e .count ≡ pen .count → empty v ≡ true
+  value-absent l k = go (empty v) refl
+    where
+      go : (b : Bool) → empty v ≡ b → empty v ≡ true
+      go true t = t
+      go false t = absurd (omega (arith, counted, k, ap length (spaced-some v t (pen .count) l)))
 
 -- nothing of an empty value is put
-pub absent-stays : (v : List ℕ) (n : ℕ) {x y : List ℕ} → empty v ≡ true → y ≡ sets x n (take (most - n) (afterSpace v)) → y ≡ x
-absent-stays v n {x} h p = p ∙ ap (sets x n) (spaced-none v h (most - n))
+pub absent-stays : (v : List ℕ) {d vs x y : List ℕ} {pen e f : Pen} → empty v ≡ true
+    → Penned d pen vs x e → PenPut x e (take (most - e .count) (afterSpace v)) y f → Penned d pen vs y f
+absent-stays v {d} {vs} {pen = pen} {e = e} h r p =
+    let t = pen-next r (take (most - e .count) (afterSpace v)) p in
+    pen-first d pen vs (pen-all t vs (sym (append-nil vs) ∙ ap (λ (w : List ℕ). vs ++ w) (sym (spaced-none v h (most - e .count)))))
 
 -- ---- cut with a mark
 
@@ -112,6 +122,34 @@ cut-fits g v h = rw (le-leb (length v) g h)
 cut-cuts : (g : ℕ) (v : List ℕ) → g < length v → cut g v ≡ take (g - 3) v ++ bytes "***"
 unfolding cut
 cut-cuts g v h = rw (lt-leb (length v) g h)
+
+-- what is left of it behind all but three characters
+last-mark : (v : List ℕ) → 3 < length v → lastOf v ≡ bytes "***"
+unfolding lastOf
+last-mark v h = rw (lt-ltb 3 (length v) h)
+
+last-all : (v : List ℕ) → length v ≤ 3 → lastOf v ≡ v
+unfolding lastOf
+last-all v h = rw (le-ltb 3 (length v) h)
+
+-- by the test for it
+pub last-more : (v : List ℕ) → ltb 3 (length v) ≡ true → lastOf v ≡ bytes "***"
+last-more v h = last-mark v (ltb-true 3 (length v) h)
+
+pub last-three : (v : List ℕ) → ltb 3 (length v) ≡ false → lastOf v ≡ take 3 v
+last-three v h = let l = ltb-false 3 (length v) h in last-all v l ∙ sym (take-all 3 v l)
+
+cut-two : (g : ℕ) (v : List ℕ) → (g < length v → 3 ≤ g) → cut g v ≡ take (g - 3) v ++ lastOf (drop (g - 3) v)
+cut-two g v t = go (decLt g (length v))
+  where
+    go : Dec (g < length v) → cut g v ≡ take (g - 3) v ++ lastOf (drop (g - 3) v)
+    go (yes h) =
+        let three = t h in
+        let l : 3 < length (drop (g - 3) v) = omega (arith, length-drop (g - 3) v) in
+        cut-cuts g v h ∙ ap (λ (w : List ℕ). take (g - 3) v ++ w) (sym (last-mark (drop (g - 3) v) l))
+    go (no h) =
+        let l : length (drop (g - 3) v) ≤ 3 = omega (arith, length-drop (g - 3) v) in
+        cut-fits g v (omega arith) ∙ sym (take-append-drop (g - 3) v) ∙ ap (λ (w : List ℕ). take (g - 3) v ++ w) (sym (last-all (drop (g - 3) v) l))
 
 -- allotments that leave equally much of a value cut it equally
 pub cut-same : (g k : ℕ) (v : List ℕ) → min g (length v) ≡ min k (length v) → cut g v ≡ cut k v
@@ -153,52 +191,15 @@ part-long g v t = go (decLt 0 (length v)) (decLt g (length v))
         let fits : length v ≤ g = omega arith in
         omega (arith, ap length (part-whole g v k fits), length-take g v, one-some v k)
 
--- a space, and n characters behind it
-pub part-behind : (d : List ℕ) (at : ℕ) (w : List ℕ) {x y : List ℕ} (n : ℕ)
-    → x ≡ sets d at (32 ∷ []) → n ≡ length w → y ≡ sets x (at + 1) w
-    → Put d at (32 ∷ w) y (at + 1 + n)
-part-behind d at w n p q r = (omega arith, behind d at (32 ∷ []) {e = at + 1} w p (omega arith) r)
-
--- a copy that fits is the whole part
-pub part-put : (d : List ℕ) (at g : ℕ) (v : List ℕ) {x : List ℕ} {r : ℕ} → 0 < length v → length v ≤ g → Put d at (32 ∷ take g v) x r → Put d at (part g v) x r
-part-put d at g v k h p = put-all (first d at (32 ∷ take g v) p) (part g v) (part-whole g v k h)
-
--- as long as a space and what is copied of it
-pub part-copied : (g : ℕ) (v : List ℕ) → 0 < length v → (g < length v → 3 ≤ g) → length (part g v) ≡ 1 + length (take g v)
-part-copied g v k t = omega (arith, part-long g v t, one-some v k, length-take g v)
-
--- ---- the mark takes the place of the last three characters
-
--- a run put over another that is as long
-over : (l : List ℕ) (i : ℕ) (vs ws : List ℕ) → i + length vs ≤ length l → length ws ≡ length vs → sets (sets l i vs) i ws ≡ sets l i ws
-over l i vs ws h e =
-    let x = sets l i vs in
-    let rest : List ℕ = drop (i + length vs) l in
-    let before : length (take i l) ≡ i = length-take-le i l (omega arith) in
-    let is : x ≡ (take i l ++ vs) ++ rest = sets-eq vs l i h in
-    let long : length x ≡ length l = length-sets l i vs in
-    let front : take i x ≡ take i l = ap (take i) (is ∙ append-assoc (take i l) vs rest) ∙ take-at (take i l) (vs ++ rest) i before in
-    let both : length (take i l ++ vs) ≡ i + length ws = omega (arith, length-append (take i l) vs) in
-    let back : drop (i + length ws) x ≡ rest = ap (drop (i + length ws)) is ∙ drop-at (take i l ++ vs) rest (i + length ws) both in
-    let ends : i + length vs ≡ i + length ws = omega arith in
-    let from : rest ≡ drop (i + length ws) l = ap (λ (k : ℕ). drop k l) ends in
-    sets-eq ws x i (omega arith) ∙ ap₂ (λ (a : List ℕ) (b : List ℕ). (a ++ ws) ++ b) front (back ∙ from) ∙ sym (sets-eq ws l i (omega arith))
-
-pub part-marked : (d : List ℕ) (at g : ℕ) (v x y : List ℕ) (e : ℕ) → g < length v → 3 ≤ g → at + 1 + g ≤ length d
-    → Put d at (32 ∷ take g v) x e → y ≡ sets x (e - 3) (bytes "***")
-    → Put d at (part g v) y e
+-- a space and all but three characters, and the end
+pub part-some : (g n : ℕ) (v : List ℕ) → (g < length v → 3 ≤ g) → empty v ≡ false → n ≡ g - 3 → part g v ≡ (32 ∷ take n v) ++ lastOf (drop n v)
 unfolding bytes
-part-marked d at g v x y e h three room put r =
-    let q = put .0 in
-    let kept : List ℕ = 32 ∷ take (g - 3) v in
-    let last = drop (g - 3) (take g v) in
-    let all : length (take g v) ≡ g = length-take-le g v (omega arith) in
-    let most : length (take (g - 3) v) ≡ g - 3 = length-take-le (g - 3) v (omega arith) in
-    let left : length last ≡ 3 = length-drop (g - 3) (take g v) ∙ omega arith in
-    let split : 32 ∷ take g v ≡ kept ++ last = ap (λ (w : List ℕ). 32 ∷ w) (sym (take-append-drop (g - 3) (take g v)) ∙ ap (λ (w : List ℕ). w ++ last) (take-take (g - 3) g v (omega arith))) in
-    let place : e - 3 ≡ at + length kept = omega arith in
-    let before : x ≡ sets (sets d at kept) (at + length kept) last = put .1 ∙ ap (sets d at) split ∙ sym (sets-append d at kept last) in
-    let fits : at + length kept + length last ≤ length (sets d at kept) = omega (arith, length-sets d at kept) in (
-      omega (arith, ap length (part-cut g v h), length-append kept (bytes "***")),
-      r ∙ rw (place, before) (over (sets d at kept) (at + length kept) last (bytes "***") fits (sym left) ∙ sets-append d at kept (bytes "***") ∙ ap (sets d at) (sym (part-cut g v h))),
-    )
+part-some g n v t h e =
+    let two : cut g v ≡ take n v ++ lastOf (drop n v) = rw e (cut-two g v t) in
+    ap afterSpace two ∙ after-some (take n v ++ lastOf (drop n v)) (some (decLt 3 (length (drop n v))) (some-long v h))
+  where
+    some : Dec (3 < length (drop n v)) → 0 < length v → 0 < length (take n v ++ lastOf (drop n v))
+    some (yes l) k = omega (arith, length-append (take n v) (lastOf (drop n v)), ap length (last-mark (drop n v) l))
+    some (no l) k =
+        let m : length (drop n v) ≤ 3 = omega arith in
+        omega (arith, length-append (take n v) (lastOf (drop n v)), ap length (last-all (drop n v) m), length-take n v, length-drop n v)

@@ -1,10 +1,11 @@
 -- Worked examples of the definitions.
 use Prim.Native.Nat.{ℕ}
-use mathlib.Core.List.{List, [], _++_}
+use mathlib.Core.List.{List, [], _∷_, _++_}
 use mathlib.Core.Path.{_≡_, refl, ap}
-use lib.ListN.{replicate}
+use lib.ListN.{length, take, replicate}
 use Rattle.octets.specs.Bytes.{same}
 use Rattle.octets.specs.Text.{bytes}
+use Rattle.characters.specs.Utf8.{encoded, utf8}
 use Rattle.sentence.proofs.Examples.{sample, sample-sentence}
 use Rattle.sentence.specs.Words.{sentenceOf}
 use Rattle.wording.specs.Text.{afterSpace, phrase, roomOf, sharesOf, cut, lastParts, textOf}
@@ -72,6 +73,23 @@ odd-fits = refl
 odd-over : lastParts 1789 (bytes "Main.") (bytes "Boil.") ≡ bytes " M*** Boil."
 unfolding lastParts afterSpace roomOf sharesOf cut same bytes
 odd-over = refl
+
+-- characters are counted, not their bytes: of ten, five é and five of four bytes each, six stay before the mark, whole
+abbrev wide : List ℕ
+wide = 233 ∷ 128512 ∷ 233 ∷ 128512 ∷ 233 ∷ 128512 ∷ 233 ∷ 128512 ∷ 233 ∷ 128512 ∷ []
+
+wide-cut : lastParts 1790 wide [] ≡ (32 ∷ 233 ∷ 128512 ∷ 233 ∷ 128512 ∷ 233 ∷ 128512 ∷ []) ++ bytes "***"
+unfolding lastParts afterSpace roomOf sharesOf cut same bytes
+wide-cut = refl
+
+wide-bytes : utf8 (lastParts 1790 wide []) ≡ (32 ∷ 195 ∷ 169 ∷ 240 ∷ 159 ∷ 152 ∷ 128 ∷ 195 ∷ 169 ∷ 240 ∷ 159 ∷ 152 ∷ 128 ∷ 195 ∷ 169 ∷ 240 ∷ 159 ∷ 152 ∷ 128 ∷ []) ++ bytes "***"
+unfolding lastParts afterSpace roomOf sharesOf cut same bytes utf8 encoded
+wide-bytes = refl
+
+-- nine of them all stay: 26 bytes and a space
+wide-fits : length (utf8 (lastParts 1790 (take 9 wide) [])) ≡ 27
+unfolding lastParts afterSpace roomOf sharesOf cut same bytes utf8 encoded
+wide-fits = refl
 
 -- `Message from {first 200 characters of senderName}.`: of 201 the last is left out, and 200 stay whole
 long-sender : textOf (bytes "S.") [] (replicate 199 120 ++ bytes "yz") [] [] ≡ bytes "S. Message from " ++ replicate 199 120 ++ bytes "y."

@@ -7,7 +7,7 @@ use Rattle.octets.specs.Text.{bytes}
 use Rattle.octets.proofs.Tests.{every-first, every-rest}
 use Rattle.octets.proofs.Sames.{same-is}
 use Rattle.report.specs.Program.{benchOf}
-use Rattle.worked.specs.Table.{changed, piecesWritten, repeated, alertWith, sample, lines, WorkedRow, WorkedHolds, AllWorked, messages, numbers, headerLines, outputs, table}
+use Rattle.worked.specs.Table.{changed, piecesWritten, repeated, alertWith, sample, lines, WorkedRow, WorkedHolds, AllWorked, messages, numbers, headerLines, outputs, cancels, utf8Messages, utf8Values, table}
 use Rattle.worked.proofs.Opens.{converting}
 
 -- a row as a test
@@ -35,6 +35,18 @@ outputs-hold : AllWorked outputs
 unfolding converting changed piecesWritten repeated lines outputs
 outputs-hold = all-hold outputs refl
 
+cancels-hold : AllWorked cancels
+unfolding converting changed piecesWritten repeated lines cancels
+cancels-hold = all-hold cancels refl
+
+utf8-messages-hold : AllWorked utf8Messages
+unfolding converting changed piecesWritten repeated lines utf8Messages
+utf8-messages-hold = all-hold utf8Messages refl
+
+utf8-values-hold : AllWorked utf8Values
+unfolding converting changed piecesWritten repeated lines utf8Values
+utf8-values-hold = all-hold utf8Values refl
+
 -- what holds of two tables holds of both together
 both : (a b : List WorkedRow) → AllWorked a → AllWorked b → AllWorked (a ++ b)
 unfolding AllWorked
@@ -43,7 +55,11 @@ both (r ∷ rs) b x y = (x .0, both rs b (x .1) y)
 
 pub table-holds : AllWorked table
 unfolding table
-table-holds = both messages _ messages-hold (both numbers _ numbers-hold (both headerLines _ headers-hold outputs-hold))
+table-holds =
+    both messages _ messages-hold
+    (both numbers _ numbers-hold
+    (both headerLines _ headers-hold
+    (both outputs _ outputs-hold (both cancels _ cancels-hold (both utf8Messages _ utf8-messages-hold utf8-values-hold)))))
 
 -- the sample without a change is the sample
 pub unchanged : alertWith [] ≡ sample

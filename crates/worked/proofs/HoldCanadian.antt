@@ -2,7 +2,7 @@
 use Prim.Native.Nat.{ℕ}
 use mathlib.Core.Path.{_≡_, refl}
 use mathlib.Core.Bool.{Bool, true}
-use mathlib.Core.List.{List, [], _∷_, _++_}
+use mathlib.Core.List.{List, [], _∷_}
 use borrow.Author.Tests.{eqb-true}
 use lib.Dec.{eqb}
 use Rattle.octets.specs.Bytes.{every, holds, same}
@@ -38,7 +38,7 @@ agree-is o p e =
 
 -- a row as a test
 abbrev answers : CanadianRow → Bool
-answers r = every holds (agree (canadianOf (r .message) 1800 1024) (canadianRowOutcome r))
+answers r = every holds (agree (canadianOf (r .message) 7200 1024) (canadianRowOutcome r))
 
 all-hold : (rs : List CanadianRow) → every answers rs ≡ true → AllCanadian rs
 unfolding AllCanadian CanadianHolds
@@ -69,11 +69,11 @@ canadian-holds =
     (every-append answers descriptions _ descriptions-hold (every-append answers asked _ asked-hold resources-hold)))
 
 -- 2 asks the text and uri outputs only, one byte less than the table's rows have or nothing at all, before any other number: the empty message too
-pub short-text : (message : List ℕ) → canadianOf message 1799 1024 ≡ textRefused 2 0
+pub short-text : (message : List ℕ) → canadianOf message 7199 1024 ≡ textRefused 2 0
 unfolding converting
 short-text message = refl
 
-pub short-uri : (message : List ℕ) → canadianOf message 1800 1023 ≡ textRefused 2 0
+pub short-uri : (message : List ℕ) → canadianOf message 7200 1023 ≡ textRefused 2 0
 unfolding converting
 short-uri message = refl
 

@@ -4,7 +4,8 @@ use Rattle.octets.specs.Bytes.{between, every, isCapital, isDigit, isLetter, is
 use Rattle.octets.specs.Digits.{digits, inRange, numOf, valueFrom}
 use Rattle.octets.specs.Scan.{scanBy}
 use Rattle.octets.specs.Text.{bytes}
-use Rattle.pieces.specs.Classes.{figureOf, isFigure, isNamed, isPlain, isStart, mayStand}
+use Rattle.characters.specs.Utf8.{codedAt, codedWidth, encoded, isCoded, isLegal, scalarAt, utf8, widthAt, written}
+use Rattle.pieces.specs.Classes.{figureOf, isFigure, isNamed, isPlain, isStart}
 use Rattle.pieces.specs.Pieces.{charAt, inNote, inText, nameAt, noteAt, noted, numberAt, numeralFrom, pieceAt, plainAt, refAt, referred, short, tagAt, wordedAt}
 use Rattle.pieces.specs.Walk.{stepped, walk}
 use Rattle.tags.specs.Attributes.{attrAt, attrNamed, bitAt, decodedAt, decodedFrom, equalled, over, seekAt, sought}
@@ -21,7 +22,7 @@ use Rattle.values.specs.WorkingSteps.{sixDigits}
 use Rattle.values.specs.Value as values-value
 use Rattle.reads.specs.WorkingLeaves.{onlyOf, pairOk, soundOf}
 use Rattle.reads.specs.Names.{localAt}
-use Rattle.reads.specs.WorkingSteps.{audioOf, audioStep, english, eventStep, locationStep, parameterStep, rowsStep, withLocation}
+use Rattle.reads.specs.WorkingSteps.{audioOf, audioStep, uriOk, english, eventStep, locationStep, parameterStep, rowsStep, withLocation}
 use Rattle.gather.specs.WorkingRead.{alertOf, fromEnglish, infoOf, selected, selection}
 use Rattle.gather.specs.Read.{bare, named}
 use Rattle.gather.specs.WorkingVisit.{leafPlace}
@@ -73,8 +74,12 @@ header-opens : Unit {0}
 unfolding bodyBytes bodyForm headForm lengthForm locationsBytes locationsForm periodForm timeForm timesBytes headerBytes
 header-opens = tt
 
+characters-opens : Unit {0}
+unfolding codedAt codedWidth encoded isCoded isLegal scalarAt utf8 widthAt written
+characters-opens = tt
+
 pieces-opens : Unit {0}
-unfolding figureOf isFigure isNamed isPlain isStart mayStand charAt inNote inText nameAt noteAt noted numberAt numeralFrom pieceAt plainAt refAt referred short
+unfolding figureOf isFigure isNamed isPlain isStart charAt inNote inText nameAt noteAt noted numberAt numeralFrom pieceAt plainAt refAt referred short
     tagAt wordedAt stepped walk
 pieces-opens = tt
 
@@ -94,7 +99,7 @@ unfolding chars charsTo fold met nextAt spelled textAt values-chars.passed value
 values-opens = tt
 
 reads-opens : Unit {0}
-unfolding onlyOf pairOk soundOf localAt audioOf audioStep english eventStep locationStep parameterStep rowsStep withLocation
+unfolding onlyOf pairOk soundOf localAt audioOf audioStep uriOk english eventStep locationStep parameterStep rowsStep withLocation
 reads-opens = tt
 
 gather-opens : Unit {0}
@@ -139,5 +144,5 @@ unfolding alertLines audioLine audioWords carryLine decimal line linesOf numberL
 report-opens = tt
 
 unfoldable pub converting : Unit {0}
-unfolding octets-opens clock-opens parts-opens header-opens pieces-opens tags-opens markup-opens values-opens reads-opens gather-opens fields-opens message-opens judgement-opens sentence-opens wording-opens outputs-opens canadian-opens convert-opens report-opens
+unfolding octets-opens clock-opens parts-opens header-opens characters-opens pieces-opens tags-opens markup-opens values-opens reads-opens gather-opens fields-opens message-opens judgement-opens sentence-opens wording-opens outputs-opens canadian-opens convert-opens report-opens
 converting = tt

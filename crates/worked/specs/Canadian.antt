@@ -1,4 +1,4 @@
--- Whole messages and what the Canadian mode answers for each, with outputs of 1,800 and 1,024 bytes, as a single table under a single statement:
+-- Whole messages and what the Canadian mode answers for each, with outputs of 7,200 and 1,024 bytes, as a single table under a single statement:
 -- `AllCanadian canadianTable`. The comments are the sentences of ticket 1 in document 02, or those of document 01 that stand there too.
 use Prim.Native.Nat.{ℕ}
 use Prim.Native.String.{String}
@@ -7,7 +7,7 @@ use mathlib.Core.List.{List, [], _∷_, _++_}
 use Rattle.octets.specs.Text.{bytes}
 use Rattle.outputs.specs.Outputs.{TextOutcome}
 use Rattle.canadian.specs.WorkingCanadian.{canadianOf}
-use Rattle.worked.specs.Table.{SamplePiece, element, leaf, parameterElement, geocodeElement, resourceElement, inPlace, leafInPlace, xml, no, eventInPlace, areaInPlace, sampleInfo, alertWith, sample, earlier}
+use Rattle.worked.specs.Table.{SamplePiece, element, leaf, parameterElement, geocodeElement, resourceElement, inPlace, leafInPlace, xml, no, eventInPlace, areaInPlace, alertWith, sample, earlier}
 
 -- ---- messages
 
@@ -63,7 +63,7 @@ canadianRowOutcome r = record {
 }
 
 unfoldable pub CanadianHolds : CanadianRow → Type 0
-CanadianHolds r = canadianOf (r .message) 1800 1024 ≡ canadianRowOutcome r
+CanadianHolds r = canadianOf (r .message) 7200 1024 ≡ canadianRowOutcome r
 
 -- the statement
 unfoldable pub AllCanadian : List CanadianRow → Type 0

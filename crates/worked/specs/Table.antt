@@ -176,7 +176,7 @@ quiet m = record {
 }
 
 -- an alert without audio that need not be carried: its header, and the text, a sentence and the rest
-abbrev pub worded : List ℕ → String → String → String → WorkedRow
+abbrev pub worded : List ℕ → String → String → List ℕ → WorkedRow
 worded m header sentence rest = record {
   message = m;
   asks = printed;
@@ -185,21 +185,24 @@ worded m header sentence rest = record {
       ∷ (bytes "header " ++ bytes header)
       ∷ bytes "audio none"
       ∷ bytes "carry no"
-      ∷ (bytes "text " ++ bytes sentence ++ bytes rest)
+      ∷ (bytes "text " ++ bytes sentence ++ rest)
       ∷ [];
 }
 
 -- the text is the sentence alone
 abbrev pub sentenceAlone : List ℕ → String → String → WorkedRow
-sentenceAlone m header sentence = worded m header sentence ""
+sentenceAlone m header sentence = worded m header sentence []
 
 -- the sample's header and sentence
-abbrev pub told : List ℕ → String → WorkedRow
-told m rest =
+abbrev pub toldBytes : List ℕ → List ℕ → WorkedRow
+toldBytes m rest =
     worded m
     "ZCZC-CIV-CEM-024031+0045-0951800-BENCH/01-"
     "Civil authorities issued Civil Emergency Message for locations 024031, valid from 18:00 UTC on day 095 for 00 hours 45 minutes."
     rest
+
+abbrev pub told : List ℕ → String → WorkedRow
+told m rest = toldBytes m (bytes rest)
 
 -- the audio, and whether it must be carried
 abbrev pub heard : List ℕ → String → WorkedRow
@@ -412,7 +415,7 @@ headerLines =
     ∷ refusedLine (brief (no "area" ∷ no "expires" ∷ [])) "number 13 field 0"
     ∷ []
 
--- ---- text, audio, must-carry; Cancels
+-- ---- text, audio, must-carry
 
 unfoldable pub outputs : List WorkedRow
 outputs =
@@ -438,8 +441,14 @@ outputs =
     ∷ carryLines (brief (inPlace "parameter" (parameterElement "EAS-Must-Carry" "False" ++ parameterElement "EAS-Must-Carry" "True") ∷ [])) "carry no"
     ∷ carryLines (brief (inPlace "parameter" (parameterElement "EAS-Must-Carry" "TRUE") ∷ [])) "carry no"
     ∷ carryLines (brief (inPlace "parameter" (parameterElement "EAS-MUST-CARRY" "True") ∷ [])) "carry no"
+    ∷ []
+
+-- ---- Cancels
+
+unfoldable pub cancels : List WorkedRow
+cancels =
     -- a Cancel with no info
-    ∷ quiet (cancel (no "info" ∷ []))
+    quiet (cancel (no "info" ∷ []))
     -- no SAME eventCode
     ∷ quiet (cancel (inPlace "eventCode" (pairElement "eventCode" "OTHER" "CEM") ∷ []))
     -- no SAME geocode
@@ -460,7 +469,80 @@ outputs =
     ∷ refusedLine (brief (leafInPlace "msgType" "Update" ∷ inPlace "references" earlier ∷ no "expires" ∷ [])) "number 14 field 0"
     ∷ []
 
+-- ---- characters
+
+-- ó and U+0141, whose low eight bits are `A`
+abbrev pub acuteO : List ℕ
+acuteO = 195 ∷ 179 ∷ []
+
+abbrev pub crossedL : List ℕ
+crossedL = 197 ∷ 129 ∷ []
+
+-- a leaf of text, these bytes, and text
+abbrev pub leafAround : String → String → List ℕ → String → SamplePiece
+leafAround name before held after = inPlace name (element name (bytes before ++ held ++ bytes after))
+
+-- an element that is skipped, in which these bytes are text
+abbrev pub skippedWith : List ℕ → List ℕ
+skippedWith held = brief (inPlace "language" (element "z" held) ∷ [])
+
+-- before the root, a declaration with these bytes
+abbrev pub declaredWith : List ℕ → List ℕ
+declaredWith held = bytes "<?xml " ++ held ++ bytes "?>" ++ brief []
+
+-- the message is UTF-8, with all characters legal in XML 1.0
+unfoldable pub utf8Messages : List WorkedRow
+utf8Messages =
+    -- as bytes, and by reference
+    toldBytes (alertWith (leafAround "description" "Inundaci" acuteO "n." ∷ no "instruction" ∷ [])) (bytes " Message from County Bench. Inundaci" ++ acuteO ++ bytes "n.")
+    ∷ toldBytes (alertWith (leafInPlace "description" "Inundaci&#243;n." ∷ no "instruction" ∷ [])) (bytes " Message from County Bench. Inundaci" ++ acuteO ++ bytes "n.")
+    -- of two, three and four bytes
+    ∷ takenLine (skippedWith (127 ∷ 194 ∷ 128 ∷ 223 ∷ 191 ∷ []))
+    ∷ takenLine (skippedWith (224 ∷ 160 ∷ 128 ∷ 237 ∷ 159 ∷ 191 ∷ 238 ∷ 128 ∷ 128 ∷ 239 ∷ 191 ∷ 189 ∷ []))
+    ∷ takenLine (skippedWith (240 ∷ 144 ∷ 128 ∷ 128 ∷ 244 ∷ 143 ∷ 191 ∷ 191 ∷ []))
+    -- also by reference, now of 1 to 7 digits
+    ∷ takenLine (skippedWith (bytes "&#0000243;&#x00000f3;&#x10ffff;"))
+    ∷ refusedLine (skippedWith (bytes "&#00000243;")) "number 5 field 0"
+    ∷ refusedLine (skippedWith (bytes "&#xd800;")) "number 5 field 0"
+    ∷ refusedLine (skippedWith (bytes "&#xfffe;")) "number 5 field 0"
+    ∷ refusedLine (skippedWith (bytes "&#x110000;")) "number 5 field 0"
+    -- in attribute values and comments; names stay ASCII
+    ∷ takenLine (brief (inPlace "language" (bytes "<z a='" ++ acuteO ++ bytes "'/><!--" ++ acuteO ++ bytes "-->") ∷ []))
+    ∷ refusedLine (brief (inPlace "language" (bytes "<z" ++ acuteO ++ bytes "/>") ∷ [])) "number 5 field 0"
+    -- malformed UTF-8 joins 5: a byte behind none, one too few, too long a form, a half of a pair, above U+10FFFF; U+FFFE is well-formed and not legal
+    ∷ refusedLine (skippedWith (128 ∷ [])) "number 5 field 0"
+    ∷ refusedLine (skippedWith (195 ∷ [])) "number 5 field 0"
+    ∷ refusedLine (skippedWith (192 ∷ 175 ∷ [])) "number 5 field 0"
+    ∷ refusedLine (skippedWith (237 ∷ 160 ∷ 128 ∷ [])) "number 5 field 0"
+    ∷ refusedLine (skippedWith (244 ∷ 144 ∷ 128 ∷ 128 ∷ [])) "number 5 field 0"
+    ∷ refusedLine (skippedWith (239 ∷ 191 ∷ 190 ∷ [])) "number 5 field 0"
+    -- in the declaration anything well-formed goes
+    ∷ takenLine (declaredWith (0 ∷ 239 ∷ 191 ∷ 190 ∷ []))
+    ∷ refusedLine (declaredWith (128 ∷ [])) "number 5 field 0"
+    -- a byte order mark before the root
+    ∷ refusedLine (239 ∷ 187 ∷ 191 ∷ brief []) "number 5 field 0"
+    ∷ []
+
+-- a character outside a value's range gets that value's own number
+unfoldable pub utf8Values : List WorkedRow
+utf8Values =
+    refusedLine (brief (leafAround "identifier" "B" acuteO "" ∷ [])) "number 7 field 1"
+    ∷ refusedLine (brief (leafAround "sender" "b" crossedL "c" ∷ [])) "number 7 field 2"
+    ∷ refusedLine (brief (leafAround "sent" "2010-04-05" crossedL "14:00:30-04:00" ∷ [])) "number 7 field 3"
+    ∷ refusedLine (brief (leafAround "status" "" crossedL "ctual" ∷ [])) "number 7 field 4"
+    ∷ refusedLine (update (element "references" (bytes "b@c,A" ++ acuteO ++ bytes ",2010-04-05T13:00:30-04:00"))) "number 10 field 0"
+    ∷ refusedLine (brief (inPlace "eventCode" (element "eventCode" (leaf "valueName" "SAME" ++ element "value" (bytes "CE" ++ crossedL))) ∷ [])) "number 11 field 0"
+    ∷ refusedLine (brief (inPlace "parameter" (element "parameter" (leaf "valueName" "EAS-ORG" ++ element "value" (bytes "E" ++ crossedL ++ bytes "S"))) ∷ [])) "number 12 field 0"
+    ∷ refusedLine (brief (areaInPlace (element "geocode" (leaf "valueName" "SAME" ++ element "value" (bytes "02403" ++ acuteO))) ∷ [])) "number 13 field 0"
+    ∷ refusedLine (brief (leafAround "expires" "2010-04-05" crossedL "14:45:30-04:00" ∷ [])) "number 14 field 0"
+    -- in a uri, one outside 32 to 126 makes its resource unsuitable
+    ∷ heard (brief (inPlace "resource" (element "resource" (leaf "mimeType" "audio/x-ipaws-audio-mp3" ++ element "uri" acuteO) ++ resourceElement "audio/x-ipaws-audio-wav" "w") ∷ [])) "audio wav w"
+    ∷ heard (brief (inPlace "resource" (element "resource" (leaf "mimeType" "audio/x-ipaws-audio-mp3" ++ element "uri" (127 ∷ []))) ∷ [])) "audio none"
+    -- white space stays 9, 10, 13, 32: U+00A0 is none
+    ∷ toldBytes (brief (leafAround "description" "" (194 ∷ 160 ∷ []) "" ∷ [])) (32 ∷ 194 ∷ 160 ∷ [])
+    ∷ []
+
 -- ---- the table
 
 unfoldable pub table : List WorkedRow
-table = messages ++ (numbers ++ (headerLines ++ outputs))
+table = messages ++ (numbers ++ (headerLines ++ (outputs ++ (cancels ++ (utf8Messages ++ utf8Values)))))

@@ -1,5 +1,4 @@
 -- The values of the selected info stand at their places.
-use Rattle.parts.proofs.Has.{has}
 use Rattle.convert.specs.WorkingConvert.{textIn}
 use borrow.Author.Needs.{needs}
 use Rattle.convert.proofs.put_text.Statement.{statement}
@@ -18,7 +17,7 @@ element-copy-out-instruction : tie.Need-element-copy-out-instruction
 element-copy-out-instruction c = search needs
 
 write-text-requires : tie.Need-write-text-requires
-write-text-requires c κs = let start = c .before .before .before .before .before .before .before .before .before .before .before .before in let h = has _ (start .pre .1) in (start .pre .0, (h .some, h .few))
+write-text-requires c κs = search needs
 
 same-length : tie.Need-same-length
 same-length c = search needs

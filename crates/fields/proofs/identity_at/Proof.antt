@@ -1,4 +1,4 @@
--- An identity has 64 bytes at most, so 65 characters of the value are judged as the whole.
+-- An identity has 64 bytes at most, so a copy of 65 characters of the value is judged as the whole.
 use mathlib.Core.Path.{refl, ap, _∙_}
 use native.Mathlib.Omega.{arith}
 use Prim.Native.Nat.{ℕ}
@@ -6,7 +6,7 @@ use lib.ListN.{replicate, length-take}
 use Rattle.values.specs.Value.{valueAt}
 use Rattle.fields.specs.Fields.{identityOk}
 use Rattle.fields.proofs.Buffers.{copy-fits, copied-back}
-use Rattle.fields.proofs.Identities.{identity-cut}
+use Rattle.fields.proofs.Identities.{identity-copied}
 use borrow.Author.Needs.{needs}
 use Rattle.fields.proofs.identity_at.Statement.{statement}
 use Rattle.fields.proofs.identity_at.Tie as tie
@@ -36,7 +36,7 @@ returns : tie.Need-returns
 returns c =
     let w = c .before .before .before .before in
     let a = w .before .before .before .args in
-    c .is-identity .ensures ∙ ap identityOk (copied-back (replicate {A = ℕ} 65 0) (valueAt (a .s .now) (a .at)) _ _ _ refl (w .copy .ensures .1) (w .copy .ensures .0)) ∙ identity-cut _
+    c .is-identity .ensures ∙ ap identityOk (copied-back (replicate {A = ℕ} 65 0) (valueAt (a .s .now) (a .at)) _ _ _ refl (w .copy .ensures .1) (w .copy .ensures .0)) ∙ identity-copied _
 
 pub identity-at-spec : {M : Type 1} → statement M
 identity-at-spec =

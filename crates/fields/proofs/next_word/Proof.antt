@@ -1,4 +1,4 @@
--- Each turn puts a character of the word, and what is left of it is the word from i on; a space or the end of the value ends it.
+-- Each turn puts a character of the word as one byte, and what is left of it is the word from i on; a space or the end of the value ends it.
 use Prim.Native.Nat.{_-_}
 use mathlib.Core.Path.{sym, _∙_}
 use native.Mathlib.Omega.{arith}
@@ -42,31 +42,39 @@ returns-2 c =
     let s = g .before .before in
     word-space (s .before .loop .inv) _ _ (sym (s .step .ensures) ∙ g .g .given .1) (c .if1 .taken)
 
+low-of-requires : tie.Need-low-of-requires Inv-loop μ-loop
+low-of-requires c κs = search needs
+
 keep-requires : tie.Need-keep-requires Inv-loop μ-loop
 keep-requires c κs = search needs
 
+-- back from behind a character that was put to where it was read
+abbrev to-char : tie.After-keep Inv-loop μ-loop → tie.Else1 Inv-loop μ-loop
+to-char c = c .before .before .before
+
+abbrev to-step : tie.Else1 Inv-loop μ-loop → tie.After-step Inv-loop μ-loop
+to-step c = c .before .before .before .before
+
 add-k : tie.Need-add-k Inv-loop μ-loop
 add-k c =
-    let g = c .before .before .before .before .before .before in
-    let s = g .before .before in
-    let l = s .before .loop in
-    let m = step-more _ _ _ _ (sym (s .step .ensures) ∙ g .g .given .1) .1 in
-    let n = l .inv .counts in
+    let e = to-char (c .before .before) in
+    let s = to-step e in
+    let m = step-more _ _ _ _ (sym (s .step .ensures) ∙ e .before .before .g .given .1) .1 in
+    let n = s .before .loop .inv .counts in
     omega arith
 
 loop-less : tie.Need-loop-less Inv-loop μ-loop
 loop-less c =
-    let g = c .before .before .before .before .before .before in
-    let s = g .before .before in
-    let m = step-more _ _ _ _ (sym (s .step .ensures) ∙ g .g .given .1) .1 in
+    let e = to-char (c .before .before) in
+    let m = step-more _ _ _ _ (sym (to-step e .step .ensures) ∙ e .before .before .g .given .1) .1 in
     omega arith
 
 loop-again : tie.Need-loop-again Inv-loop μ-loop
 loop-again c =
-    let g = c .before .before .before .before .before .before in
-    let s = g .before .before in
-    let l = s .before .loop in
-    word-more (l .inv) _ _ (sym (s .step .ensures) ∙ g .g .given .1) (c .before .before .before .before .if1 .left) _ (c .before .before .keep .ensures)
+    let k = c .before .before in
+    let e = to-char k in
+    let s = to-step e in
+    word-more (s .before .loop .inv) _ _ (sym (s .step .ensures) ∙ e .before .before .g .given .1) (e .if1 .left) _ _ (k .before .low-of .ensures) (k .keep .ensures)
 
 pub next-word-spec : {M : Type 1} → statement M
 next-word-spec =
@@ -82,6 +90,7 @@ next-word-spec =
     returns
     same-length-2
     returns-2
+    low-of-requires
     keep-requires
     add-k
     loop-less

@@ -1,4 +1,4 @@
--- A time has 25 bytes, so 26 characters of the value are judged as the whole.
+-- A time has 25 bytes, so a copy of 26 characters of the value is judged as the whole.
 use mathlib.Core.Path.{refl, ap, _∙_}
 use native.Mathlib.Omega.{arith}
 use Prim.Native.Nat.{ℕ}
@@ -6,7 +6,7 @@ use lib.ListN.{replicate, length-take}
 use Rattle.values.specs.Value.{valueAt}
 use Rattle.clock.specs.Time.{timeOf}
 use Rattle.fields.proofs.Buffers.{copy-fits, copied-back}
-use Rattle.fields.proofs.Identities.{time-cut}
+use Rattle.fields.proofs.Identities.{time-copied}
 use borrow.Author.Needs.{needs}
 use Rattle.fields.proofs.time_at.Statement.{statement}
 use Rattle.fields.proofs.time_at.Tie as tie
@@ -36,7 +36,7 @@ returns : tie.Need-returns
 returns c =
     let w = c .before .before .before .before in
     let a = w .before .before .before .args in
-    c .instant .ensures ∙ ap timeOf (copied-back (replicate {A = ℕ} 26 0) (valueAt (a .s .now) (a .at)) _ _ _ refl (w .copy .ensures .1) (w .copy .ensures .0)) ∙ time-cut _
+    c .instant .ensures ∙ ap timeOf (copied-back (replicate {A = ℕ} 26 0) (valueAt (a .s .now) (a .at)) _ _ _ refl (w .copy .ensures .1) (w .copy .ensures .0)) ∙ time-copied _
 
 pub time-at-spec : {M : Type 1} → statement M
 time-at-spec =

@@ -1,4 +1,4 @@
--- An event has three letters, so four characters of the value are judged as the whole.
+-- An event has three letters, so a copy of four characters of the value is judged as the whole.
 use Prim.Native.Nat.{ℕ}
 use denote.Ref.{now}
 use mathlib.Core.Path.{_≡_, refl, sym, _∙_}
@@ -7,11 +7,12 @@ use native.Mathlib.Omega.{arith}
 use borrow.Author.Tests.{eq-eqb, ne-eqb, not-true, not-false}
 use lib.ListN.{replicate, length-take}
 use Rattle.values.specs.Value.{valueAt}
+use Rattle.values.proofs.Copies.{keeps}
 use Rattle.parts.specs.Parts.{eventOk}
 use Rattle.parts.proofs.Has.{event-long}
 use Rattle.fields.proofs.Buffers.{copy-fits}
 use Rattle.judgement.specs.WorkingRules.{eventIs, eventOf}
-use Rattle.judgement.proofs.Codes.{event-judged, three-of, three-back}
+use Rattle.judgement.proofs.Codes.{event-kept, event-judged, three-of, three-back}
 use borrow.Author.Needs.{needs}
 use Rattle.judgement.proofs.event_of.Statement.{statement}
 use Rattle.judgement.proofs.event_of.Tie as tie
@@ -72,7 +73,8 @@ returns-3 c =
     let v = valueAt (now (a .s)) (a .l .at) in
     let ok : eventOk v ≡ true = sym (event-judged v _ _ (w .copy .ensures .1) (w .copy .ensures .0) _ (e .before .event-ok .ensures)) ∙ not-false _ (e .if2 .left) in
     let n = three-of v _ _ (w .copy .ensures .1) (w .copy .ensures .0) (event-long v ok) in
-    rw (eq-eqb _ _ (w .before .before .if1 .left), ok, c .three-at .ensures ∙ three-back v _ _ (w .copy .ensures .1) (w .copy .ensures .0) n)
+    let code = c .three-at .ensures ∙ three-back v _ _ (w .copy .ensures .1) (w .copy .ensures .0) n ∙ keeps v (event-kept v ok) in
+    rw (eq-eqb _ _ (w .before .before .if1 .left), ok, code)
 
 pub event-of-spec : {M : Type 1} → statement M
 event-of-spec =

@@ -1,4 +1,4 @@
--- A value of three characters is in the buffer whole, and no other is an originator.
+-- A copy of a value of three characters is in the buffer whole, and no other is an originator.
 use denote.Ref.{now}
 use mathlib.Core.Path.{_≡_, ap, _∙_}
 use native.Mathlib.Omega.{arith}
@@ -7,7 +7,7 @@ use lib.ListN.{length, length-take}
 use Rattle.values.specs.Value.{valueAt}
 use Rattle.parts.specs.Originator.{originatorOf}
 use Rattle.judgement.specs.WorkingRules.{originOf}
-use Rattle.judgement.proofs.Codes.{three-of, three-back, origin-other}
+use Rattle.judgement.proofs.Codes.{three-of, three-back, origin-low, origin-other}
 use borrow.Author.Needs.{needs}
 use Rattle.judgement.proofs.origin_of.Statement.{statement}
 use Rattle.judgement.proofs.origin_of.Tie as tie
@@ -43,7 +43,8 @@ returns-3 c =
     let w = c .before .before .before .before in
     let a = w .before .before .before .before .before .args in
     let v = valueAt (now (a .s)) (a .l .at) in
-    rw (ne-eqb _ _ (w .before .before .if1 .left)) (c .originator-of .ensures ∙ ap originatorOf (three-back v _ _ (w .copy .ensures .1) (w .copy .ensures .0) (c .before .before .if2 .left)))
+    let code = three-back v _ _ (w .copy .ensures .1) (w .copy .ensures .0) (c .before .before .if2 .left) in
+    rw (ne-eqb _ _ (w .before .before .if1 .left)) (c .originator-of .ensures ∙ ap originatorOf code ∙ origin-low v)
 
 pub origin-of-spec : {M : Type 1} → statement M
 origin-of-spec =

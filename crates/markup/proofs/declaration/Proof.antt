@@ -10,14 +10,22 @@ use lib.Dec.{lit<}
 use borrow.Author.Tests.{not-true, not-false}
 use borrow.Author.Needs.{needs}
 use Rattle.octets.specs.Bytes.{byteAt, stands, isSpace}
-use Rattle.octets.specs.Scan.{scan}
+use Rattle.octets.specs.Scan.{scanBy}
 use Rattle.octets.specs.Text.{bytes}
 use Rattle.octets.proofs.Sames.{stands-in}
+use Rattle.characters.specs.Utf8.{codedWidth}
 use Rattle.pieces.specs.declared.End.the-variants.{At}
 use Rattle.pieces.proofs.Inside.{space-in}
 use Rattle.markup.specs.Document.{inDeclaration, declarationAt}
 use Rattle.markup.proofs.declaration.Statement.{statement}
 use Rattle.markup.proofs.declaration.Tie as tie
+
+-- behind the first word, and behind the white space
+began : (c : tie.Else1) → stands (60 ∷ 63 ∷ 120 ∷ 109 ∷ 108 ∷ []) (now (c .before .before .before .before .args .s)) (c .before .before .before .before .args .at) ≡ true
+began c = sym (c .before .stands-at .ensures) ∙ not-false _ (c .if1 .left)
+
+spaced : (c : tie.Else2) → isSpace (byteAt (now (c .before .before .before .before .before .before .before .args .s)) (c .before .before .before .before .before .before .before .args .at + 5)) ≡ true
+spaced c = sym (c .before .is-space .ensures ∙ ap isSpace (c .before .before .byte .ensures)) ∙ not-false _ (c .if2 .left)
 
 slice-aggregate-stands-at : tie.Need-slice-aggregate-stands-at
 slice-aggregate-stands-at c = search needs
@@ -37,8 +45,7 @@ add-byte : tie.Need-add-byte
 add-byte c =
     let s = now (c .before .before .before .before .args .s) in
     let at = c .before .before .before .before .args .at in
-    let y : stands (60 ∷ 63 ∷ 120 ∷ 109 ∷ 108 ∷ []) s at ≡ true = sym (c .before .stands-at .ensures) ∙ not-false _ (c .if1 .left) in
-    let h : at + 5 ≤ length s = stands-in (60 ∷ 63 ∷ 120 ∷ 109 ∷ 108 ∷ []) s at y (lit< tt) in
+    let h : at + 5 ≤ length s = stands-in (60 ∷ 63 ∷ 120 ∷ 109 ∷ 108 ∷ []) s at (began c) (lit< tt) in
     omega arith
 
 byte-requires : tie.Need-byte-requires
@@ -52,16 +59,14 @@ unfolding declarationAt bytes
 returns-2 c =
     let s = now (c .before .before .before .before .before .before .before .args .s) in
     let at = c .before .before .before .before .before .before .before .args .at in
-    let y : stands (60 ∷ 63 ∷ 120 ∷ 109 ∷ 108 ∷ []) s at ≡ true = sym (c .before .before .before .before .stands-at .ensures) ∙ not-false _ (c .before .before .before .if1 .left) in
     let b : isSpace (byteAt s (at + 5)) ≡ false = sym (c .before .is-space .ensures ∙ ap isSpace (c .before .before .byte .ensures)) ∙ not-true _ (c .if2 .taken) in
-    rw (y, b)
+    rw (began (c .before .before .before), b)
 
 add-declaration-end : tie.Need-add-declaration-end
 add-declaration-end c =
     let s = now (c .before .before .before .before .before .before .before .args .s) in
     let at = c .before .before .before .before .before .before .before .args .at in
-    let b : isSpace (byteAt s (at + 5)) ≡ true = sym (c .before .is-space .ensures ∙ ap isSpace (c .before .before .byte .ensures)) ∙ not-false _ (c .if2 .left) in
-    let h : at + 5 < length s = space-in s (at + 5) b in
+    let h : at + 5 < length s = space-in s (at + 5) (spaced c) in
     omega arith
 
 declaration-end-requires : tie.Need-declaration-end-requires
@@ -77,7 +82,7 @@ add-t16 : tie.Need-add-t16
 add-t16 c =
     let s = now (c .before .before .before .before .before .before .before .before .before .before .before .args .s) in
     let at = c .before .before .before .before .before .before .before .before .before .before .before .args .at in
-    let e = scan (inDeclaration s) (length s) (at + 6) in
+    let e = scanBy (codedWidth s) (inDeclaration s) (length s) (at + 6) in
     let g : c .before .before .before .declaration-end .result ≡ e = c .before .before .before .declaration-end .ensures in
     let z : stands (63 ∷ 62 ∷ []) s e ≡ true = ap (stands (63 ∷ 62 ∷ []) s) (sym g) ∙ sym (c .before .stands-at2 .ensures) ∙ c .if3 .taken in
     let h : e + 2 ≤ length s = stands-in (63 ∷ 62 ∷ []) s e z (lit< tt) in
@@ -88,24 +93,20 @@ unfolding declarationAt bytes
 returns-3 c =
     let s = now (c .before .before .before .before .before .before .before .before .before .before .before .args .s) in
     let at = c .before .before .before .before .before .before .before .before .before .before .before .args .at in
-    let y : stands (60 ∷ 63 ∷ 120 ∷ 109 ∷ 108 ∷ []) s at ≡ true = sym (c .before .before .before .before .before .before .before .before .stands-at .ensures) ∙ not-false _ (c .before .before .before .before .before .before .before .if1 .left) in
-    let b : isSpace (byteAt s (at + 5)) ≡ true = sym (c .before .before .before .before .before .is-space .ensures ∙ ap isSpace (c .before .before .before .before .before .before .byte .ensures)) ∙ not-false _ (c .before .before .before .before .if2 .left) in
-    let e = scan (inDeclaration s) (length s) (at + 6) in
+    let e = scanBy (codedWidth s) (inDeclaration s) (length s) (at + 6) in
     let g : c .before .before .before .declaration-end .result ≡ e = c .before .before .before .declaration-end .ensures in
     let z : stands (63 ∷ 62 ∷ []) s e ≡ true = ap (stands (63 ∷ 62 ∷ []) s) (sym g) ∙ sym (c .before .stands-at2 .ensures) ∙ c .if3 .taken in
-    rw (y, b, z) (ap (λ (x : ℕ). At (x + 2)) g)
+    rw (began (c .before .before .before .before .before .before .before), spaced (c .before .before .before .before), z) (ap (λ (x : ℕ). At (x + 2)) g)
 
 returns-4 : tie.Need-returns-4
 unfolding declarationAt bytes
 returns-4 c =
     let s = now (c .before .before .before .before .before .before .before .before .before .before .before .args .s) in
     let at = c .before .before .before .before .before .before .before .before .before .before .before .args .at in
-    let y : stands (60 ∷ 63 ∷ 120 ∷ 109 ∷ 108 ∷ []) s at ≡ true = sym (c .before .before .before .before .before .before .before .before .stands-at .ensures) ∙ not-false _ (c .before .before .before .before .before .before .before .if1 .left) in
-    let b : isSpace (byteAt s (at + 5)) ≡ true = sym (c .before .before .before .before .before .is-space .ensures ∙ ap isSpace (c .before .before .before .before .before .before .byte .ensures)) ∙ not-false _ (c .before .before .before .before .if2 .left) in
-    let e = scan (inDeclaration s) (length s) (at + 6) in
+    let e = scanBy (codedWidth s) (inDeclaration s) (length s) (at + 6) in
     let g : c .before .before .before .declaration-end .result ≡ e = c .before .before .before .declaration-end .ensures in
     let z : stands (63 ∷ 62 ∷ []) s e ≡ false = ap (stands (63 ∷ 62 ∷ []) s) (sym g) ∙ sym (c .before .stands-at2 .ensures) ∙ c .if3 .left in
-    rw (y, b, z)
+    rw (began (c .before .before .before .before .before .before .before), spaced (c .before .before .before .before), z)
 
 pub declaration-spec : {M : Type 1} → statement M
 declaration-spec =

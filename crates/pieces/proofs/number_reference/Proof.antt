@@ -12,11 +12,12 @@ use Rattle.octets.specs.Bytes.{byteAt}
 use Rattle.octets.specs.Scan.{past}
 use Rattle.octets.proofs.Scans.{scan-ge}
 use Rattle.octets.proofs.Tests.{below-between, above-between}
+use Rattle.characters.specs.Utf8.{isLegal}
 use Rattle.pieces.proofs.Words.{inside-is}
-use Rattle.pieces.specs.Classes.{mayStand, isFigure}
+use Rattle.pieces.specs.Classes.{isFigure}
 use Rattle.pieces.specs.Pieces.{numberTests, numberAt}
 use Rattle.pieces.specs.declared.Ref.the-variants.{Wrong}
-use Rattle.pieces.proofs.Numerals.{too-big, number-not, number-is}
+use Rattle.pieces.proofs.Numerals.{number-not, number-is}
 use Rattle.pieces.proofs.number_reference.Statement.{statement}
 use Rattle.pieces.proofs.number_reference.Tie as tie
 
@@ -50,7 +51,7 @@ figures-requires : tie.Need-figures-requires
 figures-requires c κs = search needs
 
 returns : tie.Need-returns
-returns c = refused (c .before) 0 (below-between 1 6 (span (c .before)) (omega arith))
+returns c = refused (c .before) 0 (below-between 1 7 (span (c .before)) (omega arith))
 
 sub-if2 : tie.Need-sub-if2
 sub-if2 c = omega (arith, digits-end (c .before))
@@ -58,7 +59,7 @@ sub-if2 c = omega (arith, digits-end (c .before))
 returns-2 : tie.Need-returns-2
 returns-2 c =
     let g = digits-end (c .before .before) in
-    refused (c .before .before) 0 (above-between 1 6 (span (c .before .before)) (omega arith))
+    refused (c .before .before) 0 (above-between 1 7 (span (c .before .before)) (omega arith))
 
 byte-requires : tie.Need-byte-requires
 byte-requires c κs = search needs
@@ -77,29 +78,24 @@ numeral-requires c κs =
     let h = semicolon c in
     (omega arith, (omega arith, omega arith))
 
+is-legal-requires : tie.Need-is-legal-requires
+is-legal-requires c κs = search needs
+
+add-t11 : tie.Need-add-t11
+add-t11 c = let h = semicolon (c .before .before .before) in omega arith
+
 returns-4 : tie.Need-returns-4
-returns-4 c = refused (c .before .before .before .before .before .before) 2 (rw (← c .before .numeral .ensures) (too-big (c .before .numeral .result) (omega arith)))
-
-cast-b : tie.Need-cast-b
-cast-b c = search needs
-
-may-stand-requires : tie.Need-may-stand-requires
-may-stand-requires c κs = search needs
-
-add-t12 : tie.Need-add-t12
-add-t12 c = let h = semicolon (c .before .before .before .before) in omega arith
-
-returns-5 : tie.Need-returns-5
-returns-5 c =
-    let d = c .before .before .before .before .before .before .before .before in
+returns-4 c =
+    let d = c .before .before .before .before .before .before .before in
     let a = d .before .before .args in
     let g = digits-end d in
-    let m : mayStand (c .before .before .before .numeral .result) ≡ true = sym (c .before .may-stand .ensures) ∙ c .if5 .taken in
-    let f = behind (c .before .before .before .before .before) in
-    number-is (a .base) (now (a .s)) (a .at) (d .figures .result) (d .figures .ensures) (c .before .before .before .numeral .result) (c .before .before .before .numeral .ensures) (omega arith) (omega arith) (omega arith) m
+    let m : isLegal (c .before .before .numeral .result) ≡ true = sym (c .before .is-legal .ensures) ∙ c .if4 .taken in
+    let f = behind (c .before .before .before .before) in
+    let n = c .before .before .numeral in
+    number-is (a .base) (now (a .s)) (a .at) (d .figures .result) (d .figures .ensures) (n .result) (n .ensures) (omega arith) (omega arith) (omega arith) m
 
-returns-6 : tie.Need-returns-6
-returns-6 c = refused (c .before .before .before .before .before .before .before .before) 2 (rw (← c .before .before .before .numeral .ensures) (sym (c .before .may-stand .ensures) ∙ c .if5 .left))
+returns-5 : tie.Need-returns-5
+returns-5 c = refused (c .before .before .before .before .before .before .before) 2 (rw (← c .before .before .numeral .ensures) (sym (c .before .is-legal .ensures) ∙ c .if4 .left))
 
 pub number-reference-spec : {M : Type 1} → statement M
 number-reference-spec =
@@ -113,9 +109,7 @@ number-reference-spec =
     returns-3
     sub-numeral
     numeral-requires
+    is-legal-requires
+    add-t11
     returns-4
-    cast-b
-    may-stand-requires
-    add-t12
-    returns-5
-    returns-6)
+    returns-5)

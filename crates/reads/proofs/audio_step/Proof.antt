@@ -6,9 +6,9 @@ use lib.Dec.{eqb}
 use borrow.Author.Tests.{not-true, not-false, eq-eqb, ne-eqb}
 use borrow.Author.Needs.{needs}
 use Rattle.octets.specs.Bytes.{pick}
-use Rattle.octets.proofs.Tests.{between-is, below-between, above-between}
 use Rattle.reads.specs.WorkingLeaves.{soundOf}
 use Rattle.reads.specs.WorkingSteps.{audioOf, isAudio, audioStep}
+use Rattle.reads.proofs.Uris.{uri-empty, uri-long, uri-is}
 use Rattle.reads.proofs.audio_step.Statement.{statement}
 use Rattle.reads.proofs.audio_step.Tie as tie
 
@@ -53,19 +53,19 @@ audio-of-requires c κs = search needs
 returns-4 : tie.Need-returns-4
 returns-4 c = rw (left (c .before .before), sym (c .before .audio-of .ensures), eq-eqb _ _ (c .if4 .taken))
 
-size-requires : tie.Need-size-requires
-size-requires c κs = search needs
+printable-size-requires : tie.Need-printable-size-requires
+printable-size-requires c κs = search needs
 
 returns-5 : tie.Need-returns-5
-returns-5 c = rw (left (c .before .before .before .before), is-audio (c .before .before), sym (c .before .size .ensures), below-between 1 1024 _ (c .if5 .taken))
+returns-5 c = rw (left (c .before .before .before .before), is-audio (c .before .before), uri-empty _ _ (c .before .printable-size .ensures) (c .if5 .taken))
 
 returns-6 : tie.Need-returns-6
-returns-6 c = rw (left (c .before .before .before .before .before), is-audio (c .before .before .before), sym (c .before .before .size .ensures), above-between 1 1024 _ (c .if6 .taken))
+returns-6 c = rw (left (c .before .before .before .before .before), is-audio (c .before .before .before), uri-long _ _ (c .before .before .printable-size .ensures) (c .if6 .taken))
 
 returns-7 : tie.Need-returns-7
 returns-7 c =
-    let fits = between-is 1 1024 _ (c .before .if5 .left) (c .if6 .left) in
-    rw (left (c .before .before .before .before .before), is-audio (c .before .before .before), sym (c .before .before .size .ensures), fits, c .before .before .before .before .audio-of .ensures)
+    let fits = uri-is _ _ (c .before .before .printable-size .ensures) (c .before .if5 .left) (c .if6 .left) in
+    rw (left (c .before .before .before .before .before), is-audio (c .before .before .before), fits, c .before .before .before .before .audio-of .ensures)
 
 pub audio-step-spec : {M : Type 1} → statement M
 audio-step-spec =
@@ -78,7 +78,7 @@ audio-step-spec =
     returns-3
     audio-of-requires
     returns-4
-    size-requires
+    printable-size-requires
     returns-5
     returns-6
     returns-7)

@@ -24,7 +24,7 @@ abbrev outcome : tie.After-convert → Outcome
 outcome c = benchOf (c .before .before .before .before .before .before .before .before .args .message .now)
 
 fits : (c : tie.After-convert) → Fits (outcome c .given)
-fits c = given-fits _ (bytes "BENCH/01") 252 1800 1024
+fits c = given-fits _ (bytes "BENCH/01") 252 7200 1024
 
 answered : (c : tie.After-convert) → c .convert .result ≡ answerOf (outcome c)
 unfolding bytes
@@ -36,7 +36,7 @@ header-front c = front-put (replicate {A = ℕ} 252 0) _ (fits c .header) (ap (�
 
 text-front : (c : tie.After-convert) → Front (outcome c .given .text) (c .convert .last .1 .1 .1 .0) (c .convert .result .text)
 unfolding bytes answerOf
-text-front c = front-put (replicate {A = ℕ} 1800 0) _ (fits c .text) (ap (λ (r : Converted). r .text) (answered c)) (c .convert .ensures .1 .1 .0)
+text-front c = front-put (replicate {A = ℕ} 7200 0) _ (fits c .text) (ap (λ (r : Converted). r .text) (answered c)) (c .convert .ensures .1 .1 .0)
 
 uri-front : (c : tie.After-convert) → Front (outcome c .given .uri) (c .convert .last .1 .1 .1 .1 .0) (c .convert .result .uri)
 unfolding bytes answerOf
@@ -53,7 +53,7 @@ asked c =
 asked-is : (c : tie.After-convert) → asked c ≡ printed (outcome c)
 asked-is c = lines-printed (outcome c) (c .convert .result) (answered c) (header-front c .is) (uri-front c .is) (text-front c .is)
 
-asked-le : (c : tie.After-convert) → length (asked c) ≤ 3200
+asked-le : (c : tie.After-convert) → length (asked c) ≤ 8600
 asked-le c = rw (asked-is c) (printed-le _)
 
 returns : tie.Need-returns

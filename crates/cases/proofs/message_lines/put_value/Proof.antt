@@ -1,22 +1,27 @@
--- Forty characters fit their room.
+-- Forty characters fit their room, of four bytes each at most.
 use Prim.Native.Nat.{ℕ, _+_, _≤_}
 use mathlib.Core.List.{List}
 use native.Mathlib.Omega.{arith}
 use denote.Ref.{now}
 use lib.ListN.{length, take, length-take}
-use Rattle.values.specs.Value.{valueAt}
+use Rattle.characters.specs.Utf8.{utf8}
+use Rattle.characters.proofs.Texts.{utf8-most}
+use Rattle.values.specs.WorkingSteps.{restAt}
 use borrow.Author.Needs.{needs}
 use Rattle.cases.proofs.message_lines.put_value.Statement.{statement}
 use Rattle.cases.proofs.message_lines.put_value.Tie as tie
 
-room : (v : List ℕ) → 0 + length (take 40 v) ≤ 40
-room v = simp length-take (omega arith)
+room : (v : List ℕ) → 0 + length (utf8 (take 40 v)) ≤ 160
+room v = omega (arith, utf8-most (take 40 v), length-take 40 v)
 
-slice-aggregate-copy : tie.Need-slice-aggregate-copy
-slice-aggregate-copy c = search needs
+lead-requires : tie.Need-lead-requires
+lead-requires c κs = search needs
 
-copy-requires : tie.Need-copy-requires
-copy-requires c κs = room (valueAt (now (c .before .before .before .args .s)) (c .before .before .before .args .place))
+slice-aggregate-spell : tie.Need-slice-aggregate-spell
+slice-aggregate-spell c = search needs
+
+spell-requires : tie.Need-spell-requires
+spell-requires c κs = let k = c .before in room (restAt (now (k .before .before .before .args .s)) (k .lead .result))
 
 slice-aggregate-put : tie.Need-slice-aggregate-put
 slice-aggregate-put c = search needs
@@ -43,8 +48,9 @@ pub put-value-spec : {M : Type 1} → statement M
 put-value-spec =
     tie.close
     (tie.spec
-    slice-aggregate-copy
-    copy-requires
+    lead-requires
+    slice-aggregate-spell
+    spell-requires
     slice-aggregate-put
     put-requires
     slice-aggregate-front
