@@ -15,6 +15,9 @@
  * first of them is a number of enum stuiverhaag_numbers. Any but 0 is a refusal: no lent byte has
  * changed, and every part but the number is 0, and after 7 the field. After 0 an output begins
  * with what was written, as long as the answer says, and its bytes behind that are as they were.
+ *
+ * A message is UTF-8 (RFC 3629), and so is the text that is made of it; every length that is lent
+ * or answered counts bytes, in these too. What stations, headers, boards and uris say is ASCII.
  */
 #ifndef STUIVERHAAG_H
 #define STUIVERHAAG_H
@@ -31,13 +34,20 @@ enum stuiverhaag_numbers {
     STUIVERHAAG_DONE = 0,
     /* the board breaks its rules */
     STUIVERHAAG_BOARD_RULES = 1,
-    /* a lent output is shorter than STUIVERHAAG_HEADER_LENGTH, _TEXT_LENGTH or _URI_LENGTH */
+    /*
+     * a lent output has fewer bytes than STUIVERHAAG_HEADER_LENGTH, _TEXT_LENGTH or _URI_LENGTH,
+     * whether the answer would fit or not
+     */
     STUIVERHAAG_OUTPUT_SHORT = 2,
     /* the station is not STUIVERHAAG_STATION_LENGTH bytes of 32 to 126 without `-` and `+` */
     STUIVERHAAG_STATION_BAD = 3,
     /* the message has no byte, or more than STUIVERHAAG_MESSAGE_LONGEST */
     STUIVERHAAG_MESSAGE_LENGTH_BAD = 4,
-    /* the message is not of the subset of XML */
+    /*
+     * the message is not of the subset of XML. So too: malformed UTF-8 anywhere, the declaration
+     * not excepted; behind the declaration a character that XML 1.0 does not have, also by
+     * reference; one outside ASCII in a name, or beside the root, as a byte order mark would be
+     */
     STUIVERHAAG_XML_BAD = 5,
     /* its root is not a CAP 1.2 alert */
     STUIVERHAAG_ROOT_BAD = 6,
@@ -91,14 +101,17 @@ enum stuiverhaag_originators {
     STUIVERHAAG_ORG_CIV = 4
 };
 
-/* How many bytes a message has at most, and how many a station has. */
+/* How many bytes a message has at most, whatever its characters, and how many a station has. */
 #define STUIVERHAAG_MESSAGE_LONGEST 32768
 #define STUIVERHAAG_STATION_LENGTH 8
 
-/* How long a lent output has to be, whatever is written into it. */
+/* How many bytes a lent output has to have, whatever is written into it. */
 #define STUIVERHAAG_HEADER_LENGTH 252
-#define STUIVERHAAG_TEXT_LENGTH 1800
+#define STUIVERHAAG_TEXT_LENGTH 7200
 #define STUIVERHAAG_URI_LENGTH 1024
+
+/* How many characters a text has at most. Each is 1 to 4 bytes of it. */
+#define STUIVERHAAG_TEXT_CHARACTERS 1800
 
 /* How long a record of a board is, and how many records a board has at most. */
 #define STUIVERHAAG_RECORD_LENGTH 384
@@ -111,6 +124,15 @@ enum stuiverhaag_originators {
 /*
  * Converts a CAP message. Lent to be read: the message, and the station. Lent to be written: the
  * header, the alert text, and the uri of the audio.
+ *
+ * A character is a code point. Text, attribute values and comments of the message may have every
+ * character of XML 1.0, in text and values also by a reference of 1 to 7 digits. White space is 9,
+ * 10, 13 and 32 alone. A character outside the range of an identifier, sender, time, code or other
+ * value that is judged gets the number that the value gets for any other fault.
+ *
+ * The text has at most STUIVERHAAG_TEXT_CHARACTERS characters, each whole: no cut falls inside one.
+ * The uri has 1 to STUIVERHAAG_URI_LENGTH bytes of 32 to 126; a resource whose uri has any other
+ * character is passed over, and the choice goes on to the next.
  *
  * Numbers 0 and 2 to 14. After 0 the answer has header_length, text_length, audio, uri_length
  * and carry. A Cancel that activates nothing answers 0 with all of these 0.
@@ -127,8 +149,9 @@ uint64_t stuiverhaag_convert(const uint8_t *message, size_t message_length,
  *
  * The text is the first value that is not empty of a parameter layer:AEA:2.0:broadcastText, this
  * name in any letter case. Where there is none, it is the description, and after a space the
- * instruction unless that is empty. What is longer than STUIVERHAAG_TEXT_LENGTH is cut there,
- * without a mark. The audio is chosen as by stuiverhaag_convert.
+ * instruction unless that is empty. What has more than STUIVERHAAG_TEXT_CHARACTERS is cut there,
+ * between two characters and without a mark. Characters are taken, and the audio is chosen, as by
+ * stuiverhaag_convert.
  *
  * Numbers 0, 2, 4 to 9 and 18. After 0 the answer has text_length, which is never 0, audio and
  * uri_length. A Cancel is answered as an Alert is.
@@ -229,7 +252,7 @@ static inline size_t stuiverhaag_uri_length(uint64_t answer)
     return stuiverhaag_bits(answer, 32, 16);
 }
 
-/* Of stuiverhaag_convert and stuiverhaag_canadian: how many bytes the text has. */
+/* Of stuiverhaag_convert and stuiverhaag_canadian: how many bytes the text has, not characters. */
 static inline size_t stuiverhaag_text_length(uint64_t answer)
 {
     return stuiverhaag_bits(answer, 48, 16);

@@ -48,7 +48,10 @@ struct loans {
     size_t count;
 };
 
-/* Lends a slice, its bytes and its guards a pattern of bytes that no answer has. */
+/*
+ * Lends a slice, its bytes and its guards a pattern of bytes that no answer has: they are not ASCII, and in no UTF-8,
+ * so that a byte that is written is another one.
+ */
 static struct lent *lend(struct loans *loans, size_t length)
 {
     struct lent *lent = &loans->lent[loans->count];
@@ -59,7 +62,7 @@ static struct lent *lend(struct loans *loans, size_t length)
     if (lent->all == NULL || lent->before == NULL)
         broken("There is no memory for a slice.");
     for (size_t i = 0; i < size; i++)
-        lent->all[i] = (uint8_t)(128 + i % 127);
+        lent->all[i] = (uint8_t)(0xf5 + i % 11);
     lent->bytes = lent->all + GUARD;
     lent->length = length;
     lent->written = 0;

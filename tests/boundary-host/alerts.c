@@ -1,10 +1,11 @@
 #include "alerts.h"
 
+#include "characters.h"
 #include "markup.h"
 
 #include <string.h>
 
-#define LONGEST_VALUE 4000
+#define LONGEST_URI 1025
 
 /* ---- an alert as it is drawn */
 
@@ -71,12 +72,16 @@ static const char *const odd_times[] = {
     "2010-04-05T14:00:30Z", "2010-04-05t14:00:30-04:00", "2010-04-05T14:00:30-04:00x",
     "1999-12-31T23:59:59+00:00", "2000-01-01T00:30:00+01:00", "2100-01-01T00:00:00+00:00",
     "0000-01-01T00:00:00+00:00", "9999-12-31T23:59:59-14:59", "2010-04-05T14:00:3", "",
+    "2010-04-05\xc2\xa0T14:00:30-04:00", "2010-04-05T14:00:30-04:00\xe2\x80\x89", "201\xd9\xa0-04-05T14:00:30-04:00",
+    "2010-04-05T14:00:30-04:00\x7f",
 };
 
 static void spoil_identity(struct alert *alert)
 {
     char *word = once_in(2) ? alert->own.sender : alert->own.identifier;
-    static const char *const words[] = {"", " ", "a b", "a,b", "<", "&a"};
+    static const char *const words[] = {
+        "", " ", "a b", "a,b", "<", "&a", "\xc3\xb1", "a\x7f", "\xef\xbb\xbfx", "a\xc2\xa0", "\xf0\x90\x80\x80",
+    };
 
     if (once_in(3))
         draw_word(word, LONGEST_WORD);
@@ -86,9 +91,11 @@ static void spoil_identity(struct alert *alert)
 
 static void spoil_words(struct alert *alert)
 {
-    static const char *const statuses[] = {"actual", "", "Actual x", "Exercise", "System", "Test", "Draft", NULL};
-    static const char *const types[] = {"alert", "", "Alert Alert", "Ack", "Error", NULL};
-    static const char *const scopes[] = {"public", "", "Publi", "Restricted", "Private", NULL};
+    static const char *const statuses[] = {
+        "actual", "", "Actual x", "Exercise", "System", "Test", "Draft", "Actual\xc3\xa9", NULL,
+    };
+    static const char *const types[] = {"alert", "", "Alert Alert", "Ack", "Error", "Al\xc3\xa9rt", NULL};
+    static const char *const scopes[] = {"public", "", "Publi", "Restricted", "Private", "Public\xc2\xa0", NULL};
 
     switch (below(3)) {
     case 0:
@@ -107,7 +114,8 @@ static void spoil_references(struct alert *alert)
     static const char *const texts[] = {
         "", "x", "a,b", "a, b,2010-04-05T13:00:30-04:00", ",b,2010-04-05T13:00:30-04:00",
         "a,b,2010-04-05T13:00:30-04:00,", "a,b,2011-02-29T00:00:00+00:00", "a<,b,2010-04-05T13:00:30-04:00",
-        "a,b,2010-04-05T13:00:30-04:00;a,c,2010-04-05T13:00:30-04:00",
+        "a,b,2010-04-05T13:00:30-04:00;a,c,2010-04-05T13:00:30-04:00", "\xc3\xa1,b,2010-04-05T13:00:30-04:00",
+        "a,b,2010-04-05T13:00:30-04:00\xe3\x80\x80s,c,2010-04-05T13:00:30-04:00",
     };
 
     refer_to_unknown(alert, once_in(3) ? 17 : 0);
@@ -117,9 +125,11 @@ static void spoil_references(struct alert *alert)
 
 static void spoil_info(struct alert *alert)
 {
-    static const char *const events[] = {"", "CE", "CEMX", "cem", "C1M", "@AB", "AB[", NULL};
-    static const char *const originators[] = {"", "EAN", "civ", "CI", "CIVX"};
-    static const char *const codes[] = {"", "1", "02403", "0240311", "02403a", "02403/", "02403:"};
+    static const char *const events[] = {"", "CE", "CEMX", "cem", "C1M", "@AB", "AB[", "C\xc3\x89", "CEM\x7f", NULL};
+    static const char *const originators[] = {"", "EAN", "civ", "CI", "CIVX", "CIV\xc3\xa9", "C\xc3\x8d"};
+    static const char *const codes[] = {
+        "", "1", "02403", "0240311", "02403a", "02403/", "02403:", "0240\xd9\xa3", "024031\xf3\xa0\x84\x80",
+    };
 
     switch (below(5)) {
     case 0:
@@ -206,6 +216,7 @@ static void put_time_leaf(struct bytes *out, const char *name, int64_t time, int
 
 static void put_codes(struct bytes *out, const struct alert *alert)
 {
+    static const char *const others[] = {"UGC", "same", "SAME\xc3\xa9"};
     static struct bytes value;
 
     put_start(out, "area");
@@ -216,7 +227,7 @@ static void put_codes(struct bytes *out, const struct alert *alert)
         put_byte(&value, 0);
         put_pair(out, "geocode", "SAME", (const char *)value.byte);
         if (once_in(16))
-            put_pair(out, "geocode", once_in(2) ? "UGC" : "same", "MDZ013");
+            put_pair(out, "geocode", PICK(others), "MDZ013\xc3\xb1");
         if (once_in(16)) {
             put_end(out, "area");
             put_between(out);
@@ -231,13 +242,12 @@ static void put_codes(struct bytes *out, const struct alert *alert)
 /* Words of so many characters, white space that collapses among them; or one word, which keeps its length. */
 static const char *some_words(size_t length)
 {
-    static char text[LONGEST_VALUE];
+    static struct bytes text;
 
-    if (once_in(4))
-        draw_word(text, length);
-    else
-        draw_text(text, length);
-    return text;
+    text.length = 0;
+    draw_text(&text, length, once_in(4));
+    put_byte(&text, 0);
+    return (const char *)text.byte;
 }
 
 /* A leaf of words of some length. */
@@ -270,7 +280,7 @@ static void put_parameters(struct bytes *out, const struct alert *alert)
     if (alert->originator != NULL)
         put_pair(out, "parameter", "EAS-ORG", alert->originator);
     for (size_t left = below(4); left > 0; left--)
-        put_pair(out, "parameter", alert->originator != NULL && once_in(4) ? "EAS-ORG" : "VTEC", "/O.NEW.KBNC.TO.W/");
+        put_pair(out, "parameter", alert->originator != NULL && once_in(4) ? "EAS-ORG" : "VTEC", "/O.NEW.TO.\xc3\x91/");
     if (once_in(4))
         put_pair(out, "parameter", "EASText", some_words(once_in(4) ? 2000 : below(60)));
     while (once_in(4))
@@ -279,20 +289,36 @@ static void put_parameters(struct bytes *out, const struct alert *alert)
         put_pair(out, "parameter", "EAS-Must-Carry", once_in(2) ? "True" : "true");
 }
 
+/* A uri, once in a while with a character that none may have, at its start, in its middle or at its end. */
+static void put_uri(struct bytes *out)
+{
+    static const size_t lengths[] = {0, 1, 30, 30, 30, 1023, 1024, LONGEST_URI};
+    static struct bytes value;
+    char uri[LONGEST_URI + 1];
+    size_t length = PICK(lengths);
+    size_t at = length * below(3) / 2;
+
+    draw_word(uri, length);
+    value.length = 0;
+    put_bytes(&value, uri, at);
+    if (once_in(4))
+        put_utf8(&value, draw_foreign());
+    put(&value, uri + at);
+    put_leaf_of(out, "uri", value.byte, value.length);
+}
+
 static void put_resource(struct bytes *out)
 {
     static const char *const types[] = {
         "audio/x-ipaws-audio-mp3", "audio/x-ipaws-audio-wav", "audio/x-ipaws-streaming-audio-mp3", "image/png", "",
+        "audio/x-ipaws-audio-mp3\xc2\xa0",
     };
-    static const size_t lengths[] = {0, 1, 30, 30, 30, 1023, 1024, 1025};
-    static char uri[LONGEST_VALUE];
 
     put_between(out);
     put_start(out, "resource");
     put_leaf(out, "resourceDesc", "EAS Broadcast Content");
     put_leaf(out, "mimeType", PICK(types));
-    draw_word(uri, PICK(lengths));
-    put_leaf(out, "uri", uri);
+    put_uri(out);
     put_end(out, "resource");
 }
 
@@ -306,7 +332,7 @@ static void put_info(struct bytes *out, const struct alert *alert, const char *l
     if (alert->event != NULL)
         put_pair(out, "eventCode", "SAME", alert->event);
     if (once_in(8))
-        put_pair(out, "eventCode", "OTHER", "X");
+        put_pair(out, "eventCode", "OTHER", "\xc3\x91");
     put_time_leaf(out, "expires", alert->own.sent + alert->lasts, once_in(2) ? 0 : alert->own.zone, alert->odd_expires);
     if (!once_in(6))
         put_words(out, "senderName", once_in(8) ? 3000 : 40);
@@ -324,7 +350,7 @@ static void put_info(struct bytes *out, const struct alert *alert, const char *l
 /* Every info says the same header, whichever of them is selected; those before it may be of another language. */
 static void put_infos(struct bytes *out, const struct alert *alert)
 {
-    static const char *const languages[] = {NULL, NULL, "", "en-US", "EN-us", "es", "fr-CA"};
+    static const char *const languages[] = {NULL, NULL, "", "en-US", "EN-us", "es", "fr-CA", "en-u\xc5\xbf"};
 
     if (!alert->has_info)
         return;
@@ -337,8 +363,7 @@ static void put_infos(struct bytes *out, const struct alert *alert)
 
 static void put_alert(struct bytes *out, const struct alert *alert)
 {
-    if (once_in(4))
-        put(out, "<?xml version=\"1.0\" encoding=\"UTF-8\"?>");
+    put_declaration(out);
     put_root(out);
     put_leaf(out, "identifier", alert->own.identifier);
     put_leaf(out, "sender", alert->own.sender);

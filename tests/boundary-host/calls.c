@@ -1,5 +1,6 @@
 #include "calls.h"
 
+#include "characters.h"
 #include "lent.h"
 #include "replay.h"
 #include "stuiverhaag.h"
@@ -49,9 +50,22 @@ static const uint32_t numbers[CALLS] = {
     1u << 0 | 1u << 1 | 0x18000u /* 0, 1, 15 and 16 */
 };
 
+/* Kinds of text, of which one may be several. */
+enum text_kind { HAS_TWO, HAS_THREE, HAS_FOUR, OF_MORE_BYTES, OF_MOST_CHARACTERS, OF_MOST_BYTES, TEXT_KINDS };
+
+static const char *const text_kinds[TEXT_KINDS] = {
+    "with characters of 2 bytes", "of 3", "of 4", "of more than 1,800 bytes", "of 1,800 characters", "of 7,200 bytes",
+};
+
+static const uint8_t bench[] = "BENCH/01";
+const struct slice bench_station = {bench, STUIVERHAAG_STATION_LENGTH};
+const struct lengths just_enough = {STUIVERHAAG_HEADER_LENGTH, STUIVERHAAG_TEXT_LENGTH, STUIVERHAAG_URI_LENGTH};
+
 static unsigned long counts[CALLS][NUMBERS];
 static unsigned long fields[CALLS][FIELDS];
+static unsigned long texts[CALLS][TEXT_KINDS];
 static unsigned long quiet;
+static unsigned long decided_by_characters;
 static unsigned long wide_calls;
 static bool printing;
 static struct answered last;
@@ -66,6 +80,11 @@ struct slice written_header(void)
     return slice_of(&last.wrote[last.call == CONVERT ? 2 : 3]);
 }
 
+struct slice written_text(void)
+{
+    return slice_of(&last.wrote[last.call == CONVERT ? 3 : 1]);
+}
+
 struct slice written_uri(void)
 {
     return slice_of(&last.wrote[last.call == CONVERT ? 4 : 2]);
@@ -77,12 +96,6 @@ void print_calls(void)
 }
 
 /* ---- what can be said of an answer by itself */
-
-static void must(bool holds, const char *sentence)
-{
-    if (!holds)
-        broken(sentence);
-}
 
 static bool is_printable(const struct bytes *bytes)
 {
@@ -130,14 +143,21 @@ static void check_number(enum call call, uint64_t answer)
          (field >= STUIVERHAAG_FIELD_IDENTIFIER && field <= STUIVERHAAG_FIELD_OTHER), "The field is none of 1 to 7.");
 }
 
-/* The number that a slice alone decides, by its length or as a station; 0 where it decides none. */
+static unsigned decided_by_message(struct slice message)
+{
+    if (!is_message_length(message.length))
+        return STUIVERHAAG_MESSAGE_LENGTH_BAD;
+    return are_of_message(message.bytes, message.length) ? STUIVERHAAG_DONE : STUIVERHAAG_XML_BAD;
+}
+
+/* The number that a slice alone decides, by its length, its characters or as a station; 0 where it decides none. */
 static unsigned decided_by(const struct used *used)
 {
     size_t length = used->slice.length;
 
     switch (used->use) {
     case MESSAGE:
-        return is_message_length(length) ? STUIVERHAAG_DONE : STUIVERHAAG_MESSAGE_LENGTH_BAD;
+        return decided_by_message(used->slice);
     case STATION:
         return is_station(used->slice) ? STUIVERHAAG_DONE : STUIVERHAAG_STATION_BAD;
     case HEADER:
@@ -155,8 +175,8 @@ static unsigned decided_by(const struct used *used)
     }
 }
 
-/* The lowest number that a slice alone decides is answered, unless the board's content decides before it. */
-static void check_decided(const struct asked *asked, unsigned number)
+/* The lowest number that a slice alone decides; 0 where none does. */
+static unsigned lowest_decided(const struct asked *asked)
 {
     unsigned lowest = STUIVERHAAG_DONE;
 
@@ -166,17 +186,59 @@ static void check_decided(const struct asked *asked, unsigned number)
         if (decided != STUIVERHAAG_DONE && (lowest == STUIVERHAAG_DONE || decided < lowest))
             lowest = decided;
     }
+    return lowest;
+}
+
+/* That number is answered, unless the board's content decides before it. */
+static void check_decided(unsigned lowest, unsigned number)
+{
     must(lowest == STUIVERHAAG_DONE || number == lowest || number == STUIVERHAAG_BOARD_RULES,
-         "The number is not the one that a length or the station decides.");
+         "The number is not the one that a length, the station or the message's characters decide.");
     must(number < STUIVERHAAG_OUTPUT_SHORT || number > STUIVERHAAG_MESSAGE_LENGTH_BAD || number == lowest,
          "Number 2, 3 or 4 does not go with the lengths and the station.");
+    decided_by_characters += lowest == STUIVERHAAG_XML_BAD && number == lowest;
+}
+
+/* Counts a text by its bytes, its characters, and how many of these have as many bytes as their index says. */
+static void count_text(enum call call, size_t length, size_t characters, const size_t *of_length)
+{
+    unsigned long *kinds = texts[call];
+
+    kinds[HAS_TWO] += of_length[2] > 0;
+    kinds[HAS_THREE] += of_length[3] > 0;
+    kinds[HAS_FOUR] += of_length[4] > 0;
+    kinds[OF_MORE_BYTES] += length > STUIVERHAAG_TEXT_CHARACTERS;
+    kinds[OF_MOST_CHARACTERS] += characters == STUIVERHAAG_TEXT_CHARACTERS;
+    kinds[OF_MOST_BYTES] += length == STUIVERHAAG_TEXT_LENGTH;
+}
+
+/* A text is UTF-8 of legal characters; its white space is collapsed, and it begins with none. */
+static void check_characters(enum call call, const struct bytes *text)
+{
+    size_t characters = 0;
+    size_t of_length[LONGEST_CHARACTER + 1] = {0};
+    bool spaced = true;
+
+    for (size_t at = 0; at < text->length; characters++) {
+        uint32_t character = 0;
+        size_t taken = character_at(text->byte + at, text->length - at, &character);
+
+        must(taken > 0, "The text is not UTF-8.");
+        must(is_legal(character), "The text has a character that XML 1.0 has not.");
+        must(character >= ' ' && !(character == ' ' && spaced), "The text has white space that is not one space.");
+        spaced = character == ' ';
+        of_length[taken]++;
+        at += taken;
+    }
+    must(characters <= STUIVERHAAG_TEXT_CHARACTERS, "The text has more than 1,800 characters.");
+    count_text(call, text->length, characters, of_length);
 }
 
 /* The text and the audio of either mode, one by one and beside each other. */
-static void check_text(uint64_t answer, const struct bytes *text, const struct bytes *uri)
+static void check_text(enum call call, uint64_t answer, const struct bytes *text, const struct bytes *uri)
 {
-    must(text->length > 0 && text->length <= STUIVERHAAG_TEXT_LENGTH, "The text has no byte, or more than 1,800.");
-    must(is_printable(text), "The text has a byte that is none of 32 to 126.");
+    must(text->length > 0 && text->length <= STUIVERHAAG_TEXT_LENGTH, "The text has no byte, or more than 7,200.");
+    check_characters(call, text);
     must(stuiverhaag_audio(answer) <= STUIVERHAAG_AUDIO_STREAMING_MP3, "The audio is none of its numbers.");
     must((stuiverhaag_audio(answer) == STUIVERHAAG_AUDIO_NONE) == (uri->length == 0),
          "There is a uri without audio, or none with it.");
@@ -197,7 +259,7 @@ static void check_converted(const struct answered *answered)
     }
     must(is_header_length(header_length), "The header has a length that no header has.");
     must(stuiverhaag_carry(answer) <= 1, "The carry is neither 0 nor 1.");
-    check_text(answer, &answered->wrote[3], &answered->wrote[4]);
+    check_text(CONVERT, answer, &answered->wrote[3], &answered->wrote[4]);
 }
 
 /* The same of the Canadian mode, which has no header and no carry. */
@@ -207,7 +269,7 @@ static void check_canadian(const struct answered *answered)
 
     must(stuiverhaag_field(answer) == 0 && stuiverhaag_header_length(answer) == 0 && stuiverhaag_carry(answer) == 0,
          "The answer has more than a text and an audio.");
-    check_text(answer, &answered->wrote[1], &answered->wrote[2]);
+    check_text(CANADIAN, answer, &answered->wrote[1], &answered->wrote[2]);
 }
 
 static void check_read(uint64_t answer, size_t length)
@@ -331,8 +393,8 @@ static void count(const struct asked *asked, uint64_t answer)
     wide_calls += has_wide;
 }
 
-/* Makes a call once and checks it. */
-static void ask_once(const struct asked *asked, enum side side, struct answered *answered)
+/* Makes a call once and checks it, also by the lowest number that a slice alone decides. */
+static void ask_once(const struct asked *asked, enum side side, unsigned lowest, struct answered *answered)
 {
     uint8_t *lent[MOST_LENT];
 
@@ -345,7 +407,7 @@ static void ask_once(const struct asked *asked, enum side side, struct answered 
     answered->answer = make_call(asked, lent);
     check_number(asked->call, answered->answer);
     count(asked, answered->answer);
-    check_decided(asked, stuiverhaag_number(answered->answer));
+    check_decided(lowest, stuiverhaag_number(answered->answer));
     for (size_t i = 0; i < asked->count; i++) {
         size_t length = written(&asked->used[i], answered->answer);
 
@@ -361,13 +423,14 @@ static void ask_once(const struct asked *asked, enum side side, struct answered 
 static uint64_t ask(const struct asked *asked)
 {
     static struct answered again;
+    unsigned lowest = lowest_decided(asked);
 
     place.call = names[asked->call];
     if (printing)
         print_asked(asked);
     last.call = asked->call;
-    ask_once(asked, AT_END, &last);
-    ask_once(asked, AT_START, &again);
+    ask_once(asked, AT_END, lowest, &last);
+    ask_once(asked, AT_START, lowest, &again);
     must(last.answer == again.answer, "The same call has another answer when it is made again.");
     for (size_t i = 0; i < asked->count; i++)
         must(last.wrote[i].length == again.wrote[i].length &&
@@ -492,6 +555,22 @@ static bool print_fields(enum call call)
     return seen;
 }
 
+/* Whether each kind of text was answered. A header's sentence has no room for 7,200 bytes beside it. */
+static bool print_texts(enum call call)
+{
+    size_t kinds = call == CONVERT ? OF_MOST_BYTES : TEXT_KINDS;
+    bool seen = true;
+
+    printf("%s: texts", names[call]);
+    for (size_t i = 0; i < kinds; i++) {
+        printf("%s %s: ", i == 0 ? "" : ",", text_kinds[i]);
+        print_grouped(texts[call][i]);
+        seen = seen && texts[call][i] > 0;
+    }
+    putchar('\n');
+    return seen;
+}
+
 bool print_counts(void)
 {
     bool seen = true;
@@ -501,11 +580,15 @@ bool print_counts(void)
     seen = print_fields(CONVERT) && seen;
     seen = print_fields(CANADIAN) && seen;
     seen = print_fields(OFFER) && seen;
+    seen = print_texts(CONVERT) && seen;
+    seen = print_texts(CANADIAN) && seen;
     printf("%s: after 0 ", names[CONVERT]);
     print_grouped(quiet);
     printf(" were Cancels that activate nothing\n");
+    print_grouped(decided_by_characters);
+    printf(" of all calls were answered 5 for a message that is not UTF-8 or has characters that XML 1.0 has not\n");
     print_grouped(wide_calls);
     printf(" of all calls had a slice of more than 4,294,967,295 bytes%s\n",
            lends_wide() ? "" : ", since this machine does not lend them");
-    return seen && quiet > 0;
+    return seen && quiet > 0 && decided_by_characters > 0;
 }

@@ -26,6 +26,10 @@ struct lengths {
     size_t header, text, uri;
 };
 
+/* What a call is lent that is not to be refused for it. */
+extern const struct slice bench_station;
+extern const struct lengths just_enough;
+
 struct slice slice_of(const struct bytes *bytes);
 
 uint64_t convert(struct slice message, struct slice station, struct lengths lengths);
@@ -40,7 +44,8 @@ uint64_t hand_out(struct bytes *board);
 /* What the last conversion or the last writing of a header wrote as the header. */
 struct slice written_header(void);
 
-/* What the last conversion, in either mode, wrote as the uri. */
+/* What the last conversion, in either mode, wrote as the text and as the uri. */
+struct slice written_text(void);
 struct slice written_uri(void);
 
 /* Prints every call before it is made. */
@@ -49,7 +54,7 @@ void print_calls(void);
 /* Prints a number with commas. */
 void print_grouped(unsigned long number);
 
-/* Prints how often each number was answered. Whether each that a call may answer was. */
+/* Prints how often each number and each kind of text was answered. Whether each that a call may answer was. */
 bool print_counts(void);
 
 #endif

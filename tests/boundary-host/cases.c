@@ -6,6 +6,7 @@
 #include "lent.h"
 #include "messages.h"
 #include "replay.h"
+#include "spellings.h"
 #include "stuiverhaag.h"
 
 #include <stdio.h>
@@ -17,10 +18,6 @@
 #define STATION STUIVERHAAG_STATION_LENGTH
 #define MOST_RELATED 8
 #define MOST_HANDED 256
-
-static const uint8_t bench[] = "BENCH/01";
-static const struct slice bench_station = {bench, STATION};
-static const struct lengths just_enough = {STUIVERHAAG_HEADER_LENGTH, STUIVERHAAG_TEXT_LENGTH, STUIVERHAAG_URI_LENGTH};
 
 /* How often what one call gave was held beside what another gave. */
 static struct {
@@ -238,12 +235,22 @@ static void check_convert(struct slice message, struct slice station, struct len
         broken("The header of a conversion is refused.");
 }
 
+/* As many bytes as a text has characters, or one more or less, are short too. */
+static size_t draw_text_length(void)
+{
+    static const size_t short_ones[] = {
+        STUIVERHAAG_TEXT_CHARACTERS - 1, STUIVERHAAG_TEXT_CHARACTERS, STUIVERHAAG_TEXT_CHARACTERS + 1,
+    };
+
+    return once_in(80) ? PICK(short_ones) : draw_length(STUIVERHAAG_TEXT_LENGTH);
+}
+
 static struct lengths draw_lengths(void)
 {
     struct lengths lengths;
 
     lengths.header = draw_length(STUIVERHAAG_HEADER_LENGTH);
-    lengths.text = draw_length(STUIVERHAAG_TEXT_LENGTH);
+    lengths.text = draw_text_length();
     lengths.uri = draw_length(STUIVERHAAG_URI_LENGTH);
     return lengths;
 }
@@ -349,14 +356,22 @@ static unsigned check_offer(struct bytes *board, struct slice message)
     return STUIVERHAAG_DONE;
 }
 
-/* A message that ends at each of its places, converted in both modes and offered. */
+static bool is_ascii(const struct bytes *bytes)
+{
+    for (size_t i = 0; i < bytes->length; i++)
+        if (bytes->byte[i] > 127)
+            return false;
+    return true;
+}
+
+/* A message that ends at each of its places, some inside a character, converted in both modes and offered. */
 static void case_cut(void)
 {
     static struct bytes message, board;
 
     do
         sound_message(&message);
-    while (message.length > 2000);
+    while (message.length > 2000 || is_ascii(&message));
     for (size_t length = 0; length <= message.length; length++) {
         struct slice cut = {message.byte, length};
 
@@ -570,8 +585,12 @@ void run_case(unsigned long number)
         wide_message();
     else if (kind < 18 && lends_wide())
         wide_header();
-    else if (kind < 5400)
+    else if (kind < 4700)
         case_convert();
+    else if (kind < 5300)
+        case_character();
+    else if (kind < 5500)
+        case_cut_values();
     else if (kind < 7800)
         case_canadian();
     else if (kind < 8400)

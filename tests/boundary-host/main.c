@@ -10,12 +10,13 @@
 #include "cases.h"
 #include "lent.h"
 #include "replay.h"
+#include "spellings.h"
 
 #include <stdio.h>
 #include <stdlib.h>
 #include <string.h>
 
-/* So many calls are enough for every number to be answered. */
+/* So many calls are enough for every number and every kind of text to be answered. */
 #define ENOUGH 2000000
 #define PROGRESS 250000
 #define BAD_USAGE 2
@@ -45,9 +46,10 @@ static void run(unsigned long calls)
     print_so_far();
     enough = print_counts();
     enough = print_compared() && enough;
+    enough = print_spellings() && enough;
     if (!enough && calls >= ENOUGH) {
         fflush(stdout);
-        fprintf(stderr, "A number, a field or a comparison was never seen: too little was tested.\n");
+        fprintf(stderr, "A number, a field, a kind of text or a comparison was never seen: too little was tested.\n");
         exit(EXIT_FAILURE);
     }
 }

@@ -1,5 +1,8 @@
 #include "markup.h"
 
+#include "characters.h"
+#include "replay.h"
+
 #include <string.h>
 
 #define DAY 86400
@@ -11,10 +14,10 @@ struct style {
     size_t gaps, comments, references, skipped;
 };
 
-/* Which of the leaves, counted as they are written, is at fault, and whether the root is. */
+/* Which of the leaves, counted as they are written, is at fault, and whether the root or the declaration is. */
 struct faults {
     size_t next, missing, twice, holding, odd;
-    bool root;
+    bool root, declaration;
 };
 
 static struct style style;
@@ -36,16 +39,24 @@ void draw_word(char *word, size_t length)
     word[length] = '\0';
 }
 
-void draw_text(char *text, size_t length)
+void draw_text(struct bytes *out, size_t length, bool one_word)
 {
     static const char odd[] = "<&>\"']-~!*.,";
+    static const size_t rare[] = {0, 0, 0, 20, 3, 1};
+    /* One in so many is foreign, 0 for none, and of so many bytes, 0 for any. */
+    size_t foreign = PICK(rare);
+    size_t width = once_in(2) ? 0 : 1 + below(LONGEST_CHARACTER);
 
-    for (size_t i = 0; i < length; i++) {
+    for (; length > 0; length--) {
         size_t kind = below(40);
 
-        text[i] = kind < 6 ? ' ' : kind == 6 ? odd[below(sizeof odd - 1)] : (char)('a' + below(26));
+        if (happens(foreign))
+            put_utf8(out, width == 0 ? draw_foreign() : draw_character(width));
+        else if (kind < 6 && !one_word)
+            put_byte(out, ' ');
+        else
+            put_byte(out, (unsigned)(kind == 6 ? odd[below(sizeof odd - 1)] : (char)('a' + below(26))));
     }
-    text[length] = '\0';
 }
 
 static int64_t year_length(int64_t year)
@@ -135,12 +146,14 @@ static const char *const skipped[] = {
     "<a><b><c><d><e><f><g><h/></g></f></e></d></c></b></a>",
 };
 
-/* What the subset allows nowhere, or nowhere in text. */
+/* What the subset allows nowhere, or nowhere in text; the characters at fault are drawn elsewhere. */
 static const char *const odd[] = {
     "<a>", "</a>", "<a></b>", "<a b=1/>", "<a b='1'c='2'/>", "<a b='1' b='2'/>", "<a b='<'/>", "<a b='x\"/>",
-    "<a b/>", "< a/>", "<a/ >", "&", "&;", "&foo;", "&lt", "&#;", "&#x;", "&#X41;", "&#0;", "&#31;", "&#127;",
-    "&#x1F;", "&#0000065;", "&#999999;", "&#x4g;", "]]>", "<!-->", "<!--a--->", "<!-- -- -->", "<![CDATA[x]]>",
-    "<!DOCTYPE a>", "<?pi x?>", "\x01", "\x7f", "\xc3\xa9", "\xff", "<1a/>", "<a:/>", "<:a/>", "<a:b:c/>",
+    "<a b/>", "< a/>", "<a/ >", "&", "&;", "&foo;", "&lt", "&#;", "&#x;", "&#X41;", "&#0;", "&#31;", "&#1114112;",
+    "&#x1F;", "&#00000065;", "&#xFFFE;", "&#x4g;", "]]>", "<!-->", "<!--a--->", "<!-- -- -->", "<![CDATA[x]]>",
+    "<!DOCTYPE a>", "<?pi x?>", "\x01", "\xff", "<1a/>", "<a:/>", "<:a/>", "<a:b:c/>", "<\xc3\xa9/>", "<a\x7f/>",
+    "<a:\xc3\xb1/>", "<a\xe2\x82\xac='1'/>", "<a \xc3\xa9='1'/>", "<a\xc2\xa0/>", "<a></a\xc2\xa0>", "&\xc3\xa9;",
+    "<a b=\xc3\xa9'1'/>", "<a b='1'\xc3\xa9/>", "&#\xd9\xa1;", "<\xef\xbb\xbf/>",
     "<a><b><c><d><e><f><g><h><i><j/></i></h></g></f></e></d></c></b></a>",
     "<a><b><c><d><e><f><g><h><i><j><k><l/></k></j></i></h></g></f></e></d></c></b></a>",
 };
@@ -151,13 +164,49 @@ void put_gap(struct bytes *out)
         put(out, PICK(gaps));
 }
 
+/* A foreign character by its bytes or by its number, which in a comment means nothing. */
+static void put_foreign(struct bytes *out)
+{
+    if (once_in(2))
+        put_utf8(out, draw_foreign());
+    else
+        put_reference(out, draw_foreign());
+}
+
+static void put_comment(struct bytes *out)
+{
+    if (once_in(2)) {
+        put(out, PICK(comments));
+        return;
+    }
+    put(out, "<!--");
+    for (size_t left = below(4); left > 0; left--)
+        put_foreign(out);
+    put(out, "-->");
+}
+
+static void put_skipped(struct bytes *out)
+{
+    if (once_in(2)) {
+        put(out, PICK(skipped));
+        return;
+    }
+    put(out, "<z a='");
+    put_foreign(out);
+    put(out, "'>");
+    put_foreign(out);
+    put(out, "</z>");
+}
+
 void put_between(struct bytes *out)
 {
     put_gap(out);
     if (happens(style.comments))
-        put(out, PICK(comments));
+        put_comment(out);
     if (happens(style.skipped))
-        put(out, PICK(skipped));
+        put_skipped(out);
+    if (happens(style.skipped))
+        put_foreign(out);
     put_gap(out);
 }
 
@@ -174,8 +223,11 @@ void put_start(struct bytes *out, const char *name)
 {
     put_byte(out, '<');
     put_name(out, name);
-    if (happens(style.skipped))
-        put(out, " a=\"&#x41;>'\"");
+    if (happens(style.skipped)) {
+        put(out, " a=\"&#x41;>'");
+        put_foreign(out);
+        put_byte(out, '"');
+    }
     put_gap(out);
     put_byte(out, '>');
 }
@@ -188,31 +240,15 @@ void put_end(struct bytes *out, const char *name)
     put_byte(out, '>');
 }
 
-/* A character by its number, in one of the ways to write it. */
-static void put_numbered(struct bytes *out, unsigned character)
-{
-    static const char digits[] = "0123456789abcdef";
-
-    put(out, "&#");
-    if (once_in(2)) {
-        put_number(out, character, once_in(2) ? 1 : 6);
-    } else {
-        put(out, once_in(2) ? "x" : "x0000");
-        put_byte(out, (unsigned)digits[character / 16]);
-        put_byte(out, (unsigned)digits[character % 16]);
-    }
-    put_byte(out, ';');
-}
-
 static bool ends_in_brackets(const struct bytes *out)
 {
     return out->length >= 2 && memcmp(out->byte + out->length - 2, "]]", 2) == 0;
 }
 
-static void put_character(struct bytes *out, char character)
+static void put_character(struct bytes *out, uint32_t character)
 {
     if (happens(style.references))
-        put_numbered(out, (unsigned)character);
+        put_reference(out, character);
     else if (character == '<')
         put(out, "&lt;");
     else if (character == '&')
@@ -220,19 +256,53 @@ static void put_character(struct bytes *out, char character)
     else if (character == '>' && ends_in_brackets(out))
         put(out, "&gt;");
     else
-        put_byte(out, (unsigned)character);
+        put_utf8(out, character);
     if (character == ' ')
         put_gap(out);
     if (happens(style.comments * 16))
-        put(out, PICK(comments));
+        put_comment(out);
 }
 
 static void put_characters(struct bytes *out, const uint8_t *text, size_t length)
 {
+    size_t taken;
+
     put_gap(out);
-    for (size_t i = 0; i < length; i++)
-        put_character(out, (char)text[i]);
+    for (size_t at = 0; at < length; at += taken) {
+        uint32_t character = 0;
+
+        taken = character_at(text + at, length - at, &character);
+        if (taken == 0)
+            broken("A text of the generator's own is not UTF-8.");
+        put_character(out, character);
+    }
     put_gap(out);
+}
+
+/* What the subset does not allow: most often in text, and in what else a leaf may hold. */
+static void put_odd(struct bytes *out)
+{
+    static const char *const around[][2] = {
+        {"", ""}, {"", ""}, {"", ""}, {"<!--", "-->"}, {"<a b='", "'/>"}, {"<a>", "</a>"}, {"<a", "/>"},
+        {"<a ", "='1'/>"},
+    };
+    size_t which = below(COUNT(around));
+
+    put(out, around[which][0]);
+    switch (below(4)) {
+    case 0:
+        put_malformed(out);
+        break;
+    case 1:
+        put_utf8(out, draw_illegal());
+        break;
+    case 2:
+        put_odd_reference(out);
+        break;
+    default:
+        put(out, PICK(odd));
+    }
+    put(out, around[which][1]);
 }
 
 static void put_once(struct bytes *out, const char *name, const uint8_t *text, size_t length, size_t number)
@@ -241,9 +311,9 @@ static void put_once(struct bytes *out, const char *name, const uint8_t *text, s
     put_start(out, name);
     put_characters(out, text, length);
     if (number == faults.holding)
-        put(out, PICK(skipped));
+        put_skipped(out);
     if (number == faults.odd)
-        put(out, PICK(odd));
+        put_odd(out);
     put_end(out, name);
 }
 
@@ -279,9 +349,25 @@ void put_pair(struct bytes *out, const char *name, const char *value_name, const
     put_end(out, name);
 }
 
+/* In a declaration any character may stand. */
+void put_declaration(struct bytes *out)
+{
+    if (!faults.declaration && !once_in(4))
+        return;
+    put(out, "<?xml version=\"1.0\" encoding=\"UTF-8\"");
+    if (once_in(3))
+        put_utf8(out, once_in(2) ? draw_illegal() : draw_foreign());
+    if (faults.declaration)
+        put_malformed(out);
+    put(out, "?>");
+}
+
 void put_root(struct bytes *out)
 {
-    static const char *const others[] = {"urn:oasis:names:tc:emergency:cap:1.1", NAMESPACE " ", "", "&#117;rn:oasis"};
+    static const char *const others[] = {
+        "urn:oasis:names:tc:emergency:cap:1.1", NAMESPACE " ", "", "&#117;rn:oasis", NAMESPACE "\xc3\xa9",
+        NAMESPACE "&#xFEFF;",
+    };
 
     put_byte(out, '<');
     put_name(out, "alert");
@@ -308,14 +394,14 @@ void draw_style(void)
     style.comments = PICK(rare);
     style.references = PICK(rare);
     style.skipped = PICK(rare);
-    faults = (struct faults){0, NONE, NONE, NONE, NONE, false};
+    faults = (struct faults){0, NONE, NONE, NONE, NONE, false, false};
 }
 
 void draw_fault(void)
 {
     size_t number = once_in(2) ? below(7) : below(60);
 
-    switch (below(5)) {
+    switch (below(6)) {
     case 0:
         faults.missing = number;
         break;
@@ -327,6 +413,9 @@ void draw_fault(void)
         break;
     case 3:
         faults.odd = number;
+        break;
+    case 4:
+        faults.declaration = true;
         break;
     default:
         faults.root = true;

@@ -12,14 +12,20 @@
 /* Draws how freely the next message is written, and that it has no fault. */
 void draw_style(void);
 
-/* Draws one: a leaf missing, there twice, or holding an element or what the subset does not allow; another root. */
+/*
+ * Draws one: a leaf missing, there twice, or holding an element or what the subset does not allow; another root; a
+ * declaration that is not UTF-8.
+ */
 void draw_fault(void);
 
 /* Letters of a sender or an identifier. */
 void draw_word(char *word, size_t length);
 
-/* Words of so many characters, with characters among them that XML must encode. */
-void draw_text(char *text, size_t length);
+/*
+ * So many characters, some that XML must encode and some outside ASCII among them; white space that collapses too,
+ * unless it is one word.
+ */
+void draw_text(struct bytes *out, size_t length, bool one_word);
 
 /* An instant, in seconds since 2000 began, as CAP writes it in a zone of so many minutes. */
 void put_time(struct bytes *out, int64_t utc, int zone);
@@ -31,12 +37,15 @@ void put_moment(struct bytes *out, int64_t utc);
 void put_gap(struct bytes *out);
 void put_between(struct bytes *out);
 
+/* A declaration, or none. */
+void put_declaration(struct bytes *out);
+
 /* The root's start tag, and tags of a name with the root's prefix. */
 void put_root(struct bytes *out);
 void put_start(struct bytes *out, const char *name);
 void put_end(struct bytes *out, const char *name);
 
-/* An element that holds text alone, but for the fault. It is left out where the text is NULL. */
+/* An element that holds text alone, in UTF-8, but for the fault. It is left out where the text is NULL. */
 void put_leaf(struct bytes *out, const char *name, const char *text);
 void put_leaf_of(struct bytes *out, const char *name, const uint8_t *text, size_t length);
 

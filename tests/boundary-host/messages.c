@@ -1,6 +1,7 @@
 #include "messages.h"
 
 #include "alerts.h"
+#include "characters.h"
 #include "markup.h"
 
 #include <string.h>
@@ -17,7 +18,9 @@ static const char *const tokens[] = {
     ":", "p:", "xmlns", "xmlns:p", NAMESPACE, " xmlns=\"" NAMESPACE "\"", "SAME", "CEM", "024031", "Actual", "Alert",
     "Cancel", "Public", "EAS-ORG", "EASText", "EAS-Must-Carry", "layer:AEA:2.0:broadcastText", "True", "CIV", "en-US",
     "2010-04-05T14:00:30-04:00", "a,b,2010-04-05T14:00:30-04:00", "audio/x-ipaws-audio-mp3", "0", "9", "a", "Z", "-",
-    "\x7f", "\x80", "\xff", "\x01",
+    "\x7f", "\x80", "\xff", "\x01", "\xc3\xa9", "\xe2\x82\xac", "\xf0\x9f\x98\x80", "\xc3", "\xe2\x82", "\xf0\x9f\x98",
+    "\xef\xbb\xbf", "\xef\xbf\xbe", "\xed\xa0\x80", "\xc0\x80", "&#233;", "&#1114111;", "&#xD800;", "&#x10FFFF;",
+    "&#00000065;",
 };
 
 /* Tokens of markup in any order, behind a sound start once in a while. */
@@ -83,7 +86,10 @@ static void chance_message(struct bytes *out)
 /* One byte, or one that means something, over and over. */
 static void even_message(struct bytes *out)
 {
-    static const char *const repeated[] = {"<a>", "<a ", "<", "&", "<!--", " ", "<a></a>", "]", "<a b=''/>", "a", "\""};
+    static const char *const repeated[] = {
+        "<a>", "<a ", "<", "&", "<!--", " ", "<a></a>", "]", "<a b=''/>", "a", "\"", "\xc3\xa9", "\xf4\x8f\xbf\xbf",
+        "\xc3", "\x80", "&#x10FFFF;", "&#0",
+    };
     static const size_t lengths[] = {1, 10, 100, 1000, 32700, 32768, 32769};
     const char *token = PICK(repeated);
     size_t length = PICK(lengths);
@@ -114,39 +120,82 @@ static void take_out(struct bytes *bytes, size_t at, size_t length)
     bytes->length -= length;
 }
 
+static uint8_t other_byte(uint8_t byte)
+{
+    static const char changes[] = "<>&;/=\"'- \n!?]:a0Z+,";
+
+    switch (below(3)) {
+    case 0:
+        return (uint8_t)below(256);
+    case 1:
+        return (uint8_t)PICK(changes);
+    default:
+        return (uint8_t)(byte ^ 1u << below(8));
+    }
+}
+
+/* A character that may stand in a message, one that may not, or what is none. */
+static void put_any_character(struct bytes *out)
+{
+    switch (below(3)) {
+    case 0:
+        put_utf8(out, draw_foreign());
+        break;
+    case 1:
+        put_utf8(out, draw_illegal());
+        break;
+    default:
+        put_malformed(out);
+    }
+}
+
+/* Puts in a token, a character, or what stands there once more. */
+static void put_some_in(struct bytes *bytes, size_t at)
+{
+    static struct bytes in;
+    size_t left = bytes->length - at;
+
+    in.length = 0;
+    switch (below(3)) {
+    case 0:
+        put(&in, PICK(tokens));
+        break;
+    case 1:
+        put_any_character(&in);
+        break;
+    default:
+        put_bytes(&in, bytes->byte + at, 1 + below(left < 200 ? left : 200));
+    }
+    put_in(bytes, at, in.byte, in.length);
+}
+
 void damage(struct bytes *bytes)
 {
-    static struct bytes run;
-    static const char changes[] = "<>&;/=\"'- \n!?]:a0Z+,";
     size_t at = bytes->length == 0 ? 0 : below(bytes->length);
     size_t left = bytes->length - at;
-    const char *token = PICK(tokens);
 
     if (left == 0)
         return;
-    switch (below(8)) {
+    switch (below(10)) {
     case 0:
-        bytes->byte[at] = (uint8_t)below(256);
-        break;
     case 1:
-        bytes->byte[at] = (uint8_t)PICK(changes);
-        break;
     case 2:
-        bytes->byte[at] ^= (uint8_t)(1u << below(8));
+        bytes->byte[at] = other_byte(bytes->byte[at]);
         break;
     case 3:
-        put_in(bytes, at, (const uint8_t *)token, strlen(token));
-        break;
     case 4:
-        take_out(bytes, at, 1);
-        break;
     case 5:
-        take_out(bytes, at, 1 + below(left < 60 ? left : 60));
+        put_some_in(bytes, at);
         break;
     case 6:
-        run.length = 0;
-        put_bytes(&run, bytes->byte + at, 1 + below(left < 200 ? left : 200));
-        put_in(bytes, at, run.byte, run.length);
+        take_out(bytes, at, 1);
+        break;
+    case 7:
+        take_out(bytes, at, 1 + below(left < 60 ? left : 60));
+        break;
+    case 8:
+        bytes->length = at;
+        put_cut(bytes);
         break;
     default:
         bytes->length = at;

@@ -6,7 +6,7 @@
 
 void any_message(struct bytes *out);
 
-/* Changes, puts in, takes out, repeats or cuts some bytes. */
+/* Changes, puts in, takes out, repeats or cuts some bytes, or a character; a message may then end inside one. */
 void damage(struct bytes *bytes);
 
 #endif

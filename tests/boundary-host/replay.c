@@ -27,6 +27,12 @@ void broken(const char *sentence)
     exit(EXIT_FAILURE);
 }
 
+void must(bool holds, const char *sentence)
+{
+    if (!holds)
+        broken(sentence);
+}
+
 /* What it interrupts is a call of the library, which writes to no stream. */
 static void on_signal(int number)
 {

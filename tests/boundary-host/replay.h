@@ -2,6 +2,8 @@
 #ifndef REPLAY_H
 #define REPLAY_H
 
+#include <stdbool.h>
+
 struct place {
     unsigned long seed;
     unsigned long case_number;
@@ -12,8 +14,9 @@ struct place {
 
 extern struct place place;
 
-/* Ends the program with 1 where something is not as it must be. */
+/* Ends the program with 1 where something is not as it must be: always, or unless that holds which must. */
 void broken(const char *sentence);
+void must(bool holds, const char *sentence);
 
 /* Has a fault, a trap and a case without end told in the same way. */
 void watch(void);
