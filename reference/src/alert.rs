@@ -1,6 +1,6 @@
 //! Gathers from a message what is read in it.
 
-use crate::audio::{Audio, URI};
+use crate::audio::{is_suitable, Audio};
 use crate::header::{is_event, is_originator, Locations};
 use crate::markup::{read_document, Attributes, Broken, Tag, Visitor};
 use crate::value::{Decoded, Value};
@@ -263,7 +263,7 @@ impl<'a> Alert<'a> {
             return;
         }
         let uri = self.second.value();
-        if (1..=URI).contains(&uri.take(URI + 1).count()) {
+        if is_suitable(uri) {
             self.info.audio = Audio::of(self.first.value());
             self.info.uri = uri;
         }

@@ -30,6 +30,12 @@ impl Audio {
     }
 }
 
+/// Whether a uri may be chosen: 1 to 1,024 bytes, each 32 to 126.
+pub fn is_suitable(uri: Value) -> bool {
+    let length = uri.take(URI + 1).count();
+    (1..=URI).contains(&length) && uri.take(URI).all(|character| matches!(character, ' '..='~'))
+}
+
 /// Writes the uri of an audio choice, nothing without audio, and returns its length.
 pub fn put_uri(audio: Audio, value: Value, uri: &mut [u8]) -> usize {
     let mut uri = Output::on(uri);
@@ -37,4 +43,21 @@ pub fn put_uri(audio: Audio, value: Value, uri: &mut [u8]) -> usize {
         uri.put_each(value);
     }
     uri.length()
+}
+
+#[cfg(test)]
+mod tests {
+    use super::*;
+
+    #[test]
+    fn a_suitable_uri_is_of_its_range_and_length() {
+        let suitable = |uri: &str| is_suitable(Value::of(uri.as_bytes()));
+        assert!(suitable("u") && suitable(" a\n b~ ") && suitable(&"u".repeat(URI)));
+        assert!(!suitable("") && !suitable(" \n ") && !suitable(&"u".repeat(URI + 1)));
+        for character in ["\u{7f}", "é", "\u{120}", "&#233;", "\u{a0}", "\u{10ffff}"] {
+            assert!(!suitable(character) && !suitable(&format!("u{character}")));
+            assert!(!suitable(&("u".repeat(URI - 1) + character)));
+        }
+        assert!(!suitable(&"é".repeat(URI / 2)));
+    }
 }

@@ -6,7 +6,7 @@ use crate::judge::judge_alert;
 use crate::octets::Output;
 use crate::refusal::Refusal;
 use crate::value::Value;
-use crate::wording::TEXT;
+use crate::wording::{LONGEST_TEXT, TEXT};
 
 /// What was written: the lengths of uri and text, and the audio choice.
 #[derive(Clone, Copy, Debug, Default, PartialEq, Eq)]
@@ -25,19 +25,19 @@ pub fn canadian(message: &[u8], text: &mut [u8], uri: &mut [u8]) -> Result<Canad
     let info = alert.selected.ok_or(Refusal::NO_TEXT)?;
     let words = words(&info).ok_or(Refusal::NO_TEXT)?;
     let mut text = Output::on(text);
-    text.put_each(words.take(TEXT));
+    text.put_each(words.take(LONGEST_TEXT));
     let uri = put_uri(info.audio, info.uri, uri);
     Ok(Canadian { audio: info.audio, uri, text: text.length() })
 }
 
 /// The broadcastText, or else description and instruction; None where the first of these is
 /// empty.
-fn words<'a>(info: &Info<'a>) -> Option<impl Iterator<Item = u8> + 'a> {
+fn words<'a>(info: &Info<'a>) -> Option<impl Iterator<Item = char> + 'a> {
     let (first, second) = match info.broadcast_text {
         Some(value) => (value, Value::of(b"")),
         None => (info.description.value(), info.instruction.value()),
     };
-    let space = (!second.is_empty()).then_some(b' ');
+    let space = (!second.is_empty()).then_some(' ');
     (!first.is_empty()).then(|| first.chain(space).chain(second))
 }
 
@@ -141,6 +141,36 @@ mod tests {
             let instructed = format!("{described}<instruction>{i}</instruction>");
             assert_eq!(text(&instructed), cut(&format!("{d} {i}")));
             assert_eq!(text(&parameter(NAME, &d)), cut(&d));
+        }
+    }
+
+    #[test]
+    fn a_cut_falls_between_characters() {
+        let cut = |text: &str| said(&text.chars().take(1800).collect::<String>());
+        for last in ["x", "é", "€", "💧"] {
+            for behind in ["", "y", "ñ", "\u{800}", "\u{10ffff}"] {
+                let whole = "é€💧".repeat(599) + "dé" + last + behind;
+                assert_eq!(text(&format!("<description>{whole}</description>")), cut(&whole));
+                assert_eq!(text(&parameter(NAME, &whole)), cut(&whole));
+            }
+        }
+        let (most, more) = ("💧".repeat(1800), "💧".repeat(1801));
+        assert_eq!(most.len(), TEXT);
+        assert_eq!(text(&parameter(NAME, &more)), said(&most));
+        let instructed = "<description>é</description><instruction>&#x20AC;</instruction>";
+        assert_eq!(text(instructed), said("é €"));
+    }
+
+    #[test]
+    fn white_space_and_letter_case_are_those_of_ascii() {
+        for space in ["\u{a0}", "\u{85}", "\u{2028}", "\u{3000}", "\u{120}"] {
+            let spaced = format!("{space}{space} \n {space}");
+            let collapsed = format!("{space}{space} {space}");
+            assert_eq!(text(&parameter(NAME, &spaced)), said(&collapsed));
+            assert_eq!(text(&format!("<description>{space}</description>")), said(space));
+        }
+        for name in ["layer:AEA:2.0:broadca\u{17f}tText", "layer:\u{141}EA:2.0:broadcastText"] {
+            assert_eq!(text(&format!("{}{DESCRIBED}", parameter(name, "T."))), said("D."));
         }
     }
 

@@ -166,14 +166,10 @@ impl<'a> References<'a> {
     fn group(&mut self, value: &mut Value<'a>) -> Option<Identity> {
         let sender = Self::word(value)?;
         let identifier = Self::word(value)?;
-        let mut time = [0; 25];
-        for b in &mut time {
-            *b = value.next()?;
-        }
-        let sent = instant(&time)?;
+        let sent = instant(&value.next_ascii()?)?;
         match value.next() {
             None => {}
-            Some(b' ') => self.rest = Some(*value),
+            Some(' ') => self.rest = Some(*value),
             Some(_) => return None,
         }
         Some(Identity { sender, identifier, sent })
@@ -181,7 +177,7 @@ impl<'a> References<'a> {
 
     fn word(value: &mut Value) -> Option<Word> {
         let (word, stop) = Word::take(value);
-        (stop == Some(b',') && !word.is_empty()).then_some(word)
+        (stop == Some(',') && !word.is_empty()).then_some(word)
     }
 }
 

@@ -5,6 +5,7 @@ mod alert;
 mod audio;
 mod board;
 mod canadian;
+mod characters;
 mod clock;
 mod convert;
 mod header;

@@ -1,12 +1,9 @@
 //! Classes of bytes, and writing into lent bytes.
 
-pub fn is_white(b: u8) -> bool {
-    matches!(b, 9 | 10 | 13 | 32)
-}
+use crate::characters::is_tail;
 
-/// What may stand in a message outside its declaration.
-pub fn is_allowed(b: u8) -> bool {
-    matches!(b, 9 | 10 | 13 | 32..=126)
+pub fn is_white_byte(b: u8) -> bool {
+    matches!(b, 9 | 10 | 13 | 32)
 }
 
 pub fn is_name_start(b: u8) -> bool {
@@ -44,16 +41,21 @@ impl<'a> Output<'a> {
         self.length
     }
 
+    /// How many characters were written: each has one byte that is no tail.
+    pub fn characters(&self) -> usize {
+        self.lent[..self.length].iter().filter(|b| !is_tail(**b)).count()
+    }
+
     pub fn put(&mut self, bytes: &[u8]) {
         let end = self.length + bytes.len();
         self.lent[self.length..end].copy_from_slice(bytes);
         self.length = end;
     }
 
-    pub fn put_each(&mut self, bytes: impl Iterator<Item = u8>) {
-        for b in bytes {
-            self.lent[self.length] = b;
-            self.length += 1;
+    /// Characters, in UTF-8.
+    pub fn put_each(&mut self, characters: impl Iterator<Item = char>) {
+        for character in characters {
+            self.length += character.encode_utf8(&mut self.lent[self.length..]).len();
         }
     }
 

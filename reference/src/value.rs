@@ -1,10 +1,10 @@
 //! What a leaf or an attribute says: its text decoded, and white space collapsed.
 
+use crate::characters::{ascii, first_character, is_white};
 use crate::markup::reference;
-use crate::octets::is_white;
 
 /// The decoded text of well formed content without elements: references stand for their
-/// bytes, comments for nothing.
+/// characters, comments for nothing.
 #[derive(Clone, Copy)]
 pub struct Decoded<'a> {
     rest: &'a [u8],
@@ -15,40 +15,41 @@ impl<'a> Decoded<'a> {
         Decoded { rest: content }
     }
 
-    pub fn is(self, bytes: &[u8]) -> bool {
-        self.eq(bytes.iter().copied())
+    /// Whether it is these words of ASCII.
+    pub fn is(self, words: &[u8]) -> bool {
+        self.eq(words.iter().map(|b| char::from(*b)))
     }
 }
 
 impl Decoded<'_> {
     /// What a reference stands for, or what comes after comments. An element ends the text:
     /// a leaf that holds one is at fault, and its text is never used.
-    fn marked(&mut self) -> Option<u8> {
+    fn marked(&mut self) -> Option<char> {
         while let Some(inside) = self.rest.strip_prefix(b"<!--") {
             let end = inside.windows(3).position(|three| three == b"-->")?;
             self.rest = &inside[end + b"-->".len()..];
         }
-        let (byte, length) = match self.rest.first()? {
+        let (character, length) = match self.rest.first()? {
             b'&' => reference(self.rest)?,
             b'<' => return None,
-            byte => (*byte, 1),
+            _ => first_character(self.rest)?,
         };
         self.rest = &self.rest[length..];
-        Some(byte)
+        Some(character)
     }
 }
 
 impl Iterator for Decoded<'_> {
-    type Item = u8;
+    type Item = char;
 
     #[inline]
-    fn next(&mut self) -> Option<u8> {
-        let (first, rest) = self.rest.split_first()?;
-        if matches!(first, b'<' | b'&') {
+    fn next(&mut self) -> Option<char> {
+        let (character, length) = first_character(self.rest)?;
+        if matches!(character, '<' | '&') {
             return self.marked();
         }
-        self.rest = rest;
-        Some(*first)
+        self.rest = &self.rest[length..];
+        Some(character)
     }
 }
 
@@ -64,39 +65,47 @@ impl<'a> Value<'a> {
         Value { text: Decoded::of(content), begun: false }
     }
 
-    pub fn is(self, bytes: &[u8]) -> bool {
-        self.eq(bytes.iter().copied())
+    /// Whether it is these words of ASCII.
+    pub fn is(self, words: &[u8]) -> bool {
+        self.eq(words.iter().map(|b| char::from(*b)))
     }
 
-    /// Whether it is these bytes, ASCII letters in any case.
-    pub fn is_in_any_case(self, bytes: &[u8]) -> bool {
-        self.map(|b| b.to_ascii_lowercase()).eq(bytes.iter().map(u8::to_ascii_lowercase))
+    /// Whether it is these words of ASCII, their letters in any case.
+    pub fn is_in_any_case(self, words: &[u8]) -> bool {
+        let words = words.iter().map(|b| char::from(b.to_ascii_lowercase()));
+        self.map(|character| character.to_ascii_lowercase()).eq(words)
     }
 
     pub fn is_empty(mut self) -> bool {
         self.next().is_none()
     }
 
-    /// The value if it has exactly N bytes.
-    pub fn exactly<const N: usize>(mut self) -> Option<[u8; N]> {
+    /// The next N characters if all are of ASCII.
+    pub fn next_ascii<const N: usize>(&mut self) -> Option<[u8; N]> {
         let mut bytes = [0; N];
         for b in &mut bytes {
-            *b = self.next()?;
+            *b = ascii(self.next()?)?;
         }
+        Some(bytes)
+    }
+
+    /// The value if it is exactly N characters of ASCII.
+    pub fn exactly<const N: usize>(mut self) -> Option<[u8; N]> {
+        let bytes = self.next_ascii()?;
         self.is_empty().then_some(bytes)
     }
 }
 
 impl Value<'_> {
-    /// The space that a run of white space gives, whose first byte is passed, or the byte
-    /// after the run at the start. At the end a run gives nothing.
-    fn gap(&mut self) -> Option<u8> {
+    /// The space that a run of white space gives, whose first character is passed, or the
+    /// character after the run at the start. At the end a run gives nothing.
+    fn gap(&mut self) -> Option<char> {
         let mut after = self.text;
         while is_white(after.next()?) {
             self.text = after;
         }
         if self.begun {
-            Some(b' ')
+            Some(' ')
         } else {
             self.next()
         }
@@ -104,16 +113,16 @@ impl Value<'_> {
 }
 
 impl Iterator for Value<'_> {
-    type Item = u8;
+    type Item = char;
 
     #[inline]
-    fn next(&mut self) -> Option<u8> {
-        let byte = self.text.next()?;
-        if is_white(byte) {
+    fn next(&mut self) -> Option<char> {
+        let character = self.text.next()?;
+        if is_white(character) {
             return self.gap();
         }
         self.begun = true;
-        Some(byte)
+        Some(character)
     }
 }
 
@@ -127,15 +136,17 @@ pub struct Word {
 impl Word {
     pub const LONGEST: usize = 64;
 
-    /// The bytes up to the first that no word holds, which is given too.
-    pub fn take(from: &mut Value) -> (Word, Option<u8>) {
+    /// The characters up to the first that no word holds, which is given too.
+    pub fn take(from: &mut Value) -> (Word, Option<char>) {
         let mut word = Word { bytes: [0; Word::LONGEST], length: 0 };
-        for b in from {
-            if word.length == Word::LONGEST || !is_word_byte(b) {
-                return (word, Some(b));
+        for character in from {
+            match ascii(character).filter(|b| is_word_byte(*b)) {
+                Some(b) if word.length < Word::LONGEST => {
+                    word.bytes[word.length] = b;
+                    word.length += 1;
+                }
+                _ => return (word, Some(character)),
             }
-            word.bytes[word.length] = b;
-            word.length += 1;
         }
         (word, None)
     }

@@ -5,20 +5,23 @@ use crate::header::Parts;
 use crate::octets::Output;
 use crate::value::Value;
 
-/// The most characters of a text, for which the lent output must have room.
-pub const TEXT: usize = 1800;
+/// The most characters of a text.
+pub const LONGEST_TEXT: usize = 1800;
+
+/// The most bytes of a text, for which the lent output must have room.
+pub const TEXT: usize = 4 * LONGEST_TEXT;
 
 const LONGEST_SENDER_NAME: usize = 200;
 const MARK: &[u8] = b"***";
 
-/// Writes the text of an activation and returns its length.
+/// Writes the text of an activation and returns its length in bytes.
 pub fn put_text(parts: &Parts, info: &Info, text: &mut [u8]) -> usize {
     let mut text = Output::on(text);
     put_sentence(parts, &mut text);
     match info.eas_text {
         Some(value) if !value.is_empty() => {
             text.put(b" ");
-            let room = TEXT - text.length();
+            let room = LONGEST_TEXT - text.characters();
             text.put_each(value.take(room));
         }
         _ => put_own_words(info, &mut text),
@@ -85,15 +88,16 @@ fn put_own_words(info: &Info, text: &mut Output) {
     }
     let (description, instruction) = (info.description.value(), info.instruction.value());
     // A part of 1,800 and one still longer are cut alike.
-    let (d, i) = (description.take(TEXT).count(), instruction.take(TEXT).count());
+    let length = |part: Value| part.take(LONGEST_TEXT).count();
+    let (d, i) = (length(description), length(instruction));
     let spaces = usize::from(d > 0) + usize::from(i > 0);
-    let room = TEXT - text.length() - spaces;
+    let room = LONGEST_TEXT - text.characters() - spaces;
     let (for_description, for_instruction) = allotments(room, d, i);
     put_part(description, d, for_description, text);
     put_part(instruction, i, for_instruction, text);
 }
 
-/// How much of the room a description and an instruction of these lengths get.
+/// How many characters of the room a description and an instruction of these lengths get.
 fn allotments(room: usize, description: usize, instruction: usize) -> (usize, usize) {
     let half = room / 2;
     if description + instruction <= room {

@@ -1,10 +1,11 @@
-//! The stored vectors: each case line is answered as the line after it says.
+//! The stored vectors: each case line is answered as the line after it says. A line that begins
+//! with # says what a case asks.
 
 #[path = "../src/bin/common/answers.rs"]
 mod answers;
 
 fn check(vectors: &str) {
-    let lines: Vec<&str> = vectors.lines().collect();
+    let lines: Vec<&str> = vectors.lines().filter(|line| !line.starts_with("# ")).collect();
     assert!(!lines.is_empty() && lines.len() % 2 == 0, "Vectors are pairs of lines.");
     for pair in lines.chunks_exact(2) {
         let wanted = pair[1].strip_prefix("= ").expect("An answer stands after `= `.");
@@ -28,6 +29,11 @@ fn the_canadian_mode_is_answered() {
 }
 
 #[test]
+fn characters_beyond_ascii_are_answered() {
+    check(include_str!("../../tests/vectors/utf8.txt"));
+}
+
+#[test]
 fn the_sample_is_answered() {
     check(include_str!("../../tests/vectors/sample.txt"));
 }
@@ -47,11 +53,11 @@ fn lines_that_are_no_cases() {
         "list - 65281",
         "list - x",
         "list - 0000000001",
-        "convert - - 252 1800",
-        "convert - - 252 1800 -1",
-        "canadian - 1800",
-        "canadian - 1800 65281",
-        "canadian - 1800 1024 0",
+        "convert - - 252 7200",
+        "convert - - 252 7200 -1",
+        "canadian - 7200",
+        "canadian - 7200 65281",
+        "canadian - 7200 1024 0",
         "program",
     ];
     for line in odd {

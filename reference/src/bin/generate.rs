@@ -15,6 +15,8 @@ mod draft;
 mod headers;
 #[path = "common/hex.rs"]
 mod hex;
+#[path = "generate/letters.rs"]
+mod letters;
 #[path = "generate/messages.rs"]
 mod messages;
 #[path = "generate/pairs.rs"]
@@ -31,6 +33,8 @@ mod times;
 mod tree;
 #[path = "generate/unread.rs"]
 mod unread;
+#[path = "generate/wide.rs"]
+mod wide;
 #[path = "generate/wrong.rs"]
 mod wrong;
 

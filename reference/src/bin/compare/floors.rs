@@ -1,14 +1,19 @@
-//! The calls, and how often each number that a call can give and each kind of its answers must
-//! have been compared.
+//! The calls, and how often each number that a call can give and each kind of its cases and
+//! answers must have been compared.
+
+#[path = "kinds.rs"]
+mod kinds;
 
 use std::collections::BTreeMap;
 use std::fmt::Display;
 
+use self::kinds::{number_in, Seen};
+
 /// How many of 1,000 answers of a call. Each is about half of what the generator makes.
 type Floor = usize;
 
-/// What an answer has, and whether an answer of these fields has it.
-type Kind = (&'static str, Floor, fn(&[&str]) -> bool);
+/// What is seen in a case and its answer, and whether it is.
+type Kind = (&'static str, Floor, fn(&Seen) -> bool);
 
 struct Call {
     name: &'static str,
@@ -21,51 +26,87 @@ const CALLS: [Call; 8] = [
     Call {
         name: "convert",
         numbers: &[
-            (0, 333), (2, 14), (3, 10), (4, 8), (5, 55), (6, 11), (7, 75), (8, 8), (9, 6),
-            (10, 13), (11, 13), (12, 5), (13, 5), (14, 10),
+            (0, 333), (2, 16), (3, 9), (4, 6), (5, 71), (6, 12), (7, 64), (8, 5), (9, 4),
+            (10, 13), (11, 14), (12, 8), (13, 7), (14, 10),
         ],
         kinds: &[
-            ("a quiet Cancel", 13, |answer| matches!(answer, ["0", _, "-", ..])),
-            ("audio 0", 230, |answer| is_active(answer) && answer[3] == "0"),
-            ("audio 1", 4, |answer| is_active(answer) && answer[3] == "1"),
-            ("audio 2", 4, |answer| is_active(answer) && answer[3] == "2"),
-            ("audio 3", 4, |answer| is_active(answer) && answer[3] == "3"),
-            ("must-carry 0", 230, |answer| is_active(answer) && answer[5] == "0"),
-            ("must-carry 1", 6, |answer| is_active(answer) && answer[5] == "1"),
-            ("a text of 1,800 characters", 18, |answer| is_active(answer) && answer[6].len() == 3600),
+            ("a quiet Cancel", 15, |seen| seen.is_quiet()),
+            ("audio 0", 220, |seen| seen.has_audio("0")),
+            ("audio 1", 5, |seen| seen.has_audio("1")),
+            ("audio 2", 6, |seen| seen.has_audio("2")),
+            ("audio 3", 5, |seen| seen.has_audio("3")),
+            ("must-carry 0", 230, |seen| seen.has_carry("0")),
+            ("must-carry 1", 6, |seen| seen.has_carry("1")),
+            ("a text of 1,800 characters", 18, |seen| seen.is_full()),
+            ("a text of 1,800 characters, some of several bytes", 14, |seen| seen.is_full_and_wide()),
+            ("a mark behind a character of several bytes", 6, |seen| seen.marks_wide()),
+            ("200 characters of a senderName, some of several bytes", 3, |seen| seen.names_wide()),
+            ("a character of 2 bytes in the text", 132, |seen| seen.has_character(2)),
+            ("a character of 3 bytes in the text", 67, |seen| seen.has_character(3)),
+            ("a character of 4 bytes in the text", 66, |seen| seen.has_character(4)),
+            ("a text of more than 1,800 bytes", 18, |seen| seen.is_longer_than(1800)),
+            ("a text of more than 6,000 bytes", 2, |seen| seen.is_longer_than(6000)),
+            ("a text output of 7,199 refused", 2, |seen| seen.is_short("7199")),
+            ("a text output of 1,800 refused", 1, |seen| seen.is_short("1800")),
+            ("malformed UTF-8 refused", 19, |seen| seen.is_malformed()),
+            ("a declaration of characters that XML does not have", 3, |seen| seen.takes_odd()),
+            ("audio behind a uri with a character outside its range", 6, |seen| seen.passes_uri(true)),
+            ("no audio, and a uri with a character outside its range", 2, |seen| seen.passes_uri(false)),
+            ("number 7 for a character outside the value's range", 10, |seen| seen.refuses_wide(7)),
+            ("number 10 for a character outside the value's range", 3, |seen| seen.refuses_wide(10)),
+            ("number 11 for a character outside the value's range", 3, |seen| seen.refuses_wide(11)),
+            ("number 12 for a character outside the value's range", 4, |seen| seen.refuses_wide(12)),
+            ("number 13 for a character outside the value's range", 2, |seen| seen.refuses_wide(13)),
+            ("number 14 for a character outside the value's range", 3, |seen| seen.refuses_wide(14)),
         ],
     },
     Call {
         name: "canadian",
         numbers: &[
-            (0, 255), (2, 13), (4, 11), (5, 61), (6, 11), (7, 89), (8, 9), (9, 7), (18, 37),
+            (0, 269), (2, 16), (4, 7), (5, 76), (6, 14), (7, 71), (8, 6), (9, 5), (18, 31),
         ],
         kinds: &[
-            ("a broadcastText", 70, |answer| is_said(answer) && is_broadcast(answer[4])),
-            ("a description", 185, |answer| is_said(answer) && !is_broadcast(answer[4])),
-            ("a text of 1,800 characters", 56, |answer| is_said(answer) && answer[4].len() == 3600),
-            ("a space left by the cut", 13, |answer| is_said(answer) && answer[4].ends_with("20")),
-            ("audio 0", 230, |answer| is_said(answer) && answer[2] == "0"),
-            ("audio 1", 6, |answer| is_said(answer) && answer[2] == "1"),
-            ("audio 2", 6, |answer| is_said(answer) && answer[2] == "2"),
-            ("audio 3", 6, |answer| is_said(answer) && answer[2] == "3"),
+            ("a broadcastText", 65, |seen| seen.is_broadcast()),
+            ("a description", 200, |seen| seen.is_described()),
+            ("a text of 1,800 characters", 65, |seen| seen.is_full()),
+            ("a text of 1,800 characters, some of several bytes", 47, |seen| seen.is_full_and_wide()),
+            ("a space left by the cut", 14, |seen| seen.ends_in_space()),
+            ("audio 0", 230, |seen| seen.has_audio("0")),
+            ("audio 1", 11, |seen| seen.has_audio("1")),
+            ("audio 2", 11, |seen| seen.has_audio("2")),
+            ("audio 3", 12, |seen| seen.has_audio("3")),
+            ("a character of 2 bytes in the text", 143, |seen| seen.has_character(2)),
+            ("a character of 3 bytes in the text", 71, |seen| seen.has_character(3)),
+            ("a character of 4 bytes in the text", 74, |seen| seen.has_character(4)),
+            ("a text of more than 1,800 bytes", 71, |seen| seen.is_longer_than(1800)),
+            ("a text of 7,200 bytes", 2, |seen| seen.is_longer_than(7199)),
+            ("a text output of 7,199 refused", 4, |seen| seen.is_short("7199")),
+            ("a text output of 1,800 refused", 1, |seen| seen.is_short("1800")),
+            ("malformed UTF-8 refused", 21, |seen| seen.is_malformed()),
+            ("audio behind a uri with a character outside its range", 13, |seen| seen.passes_uri(true)),
+            ("number 7 for a character outside the value's range", 11, |seen| seen.refuses_wide(7)),
         ],
     },
     Call {
         name: "offer",
         numbers: &[
-            (0, 235), (1, 45), (4, 4), (5, 14), (6, 3), (7, 35), (8, 3), (9, 3), (10, 7),
-            (11, 8), (12, 3), (13, 3), (14, 6), (15, 115),
+            (0, 235), (1, 45), (4, 3), (5, 20), (6, 5), (7, 30), (8, 2), (9, 2), (10, 7),
+            (11, 8), (12, 4), (13, 4), (14, 7), (15, 115),
         ],
-        kinds: &[],
+        kinds: &[
+            ("characters of several bytes taken", 152, |seen| seen.takes_wide()),
+            ("malformed UTF-8 refused", 5, |seen| seen.is_malformed()),
+            ("number 7 for a character outside the value's range", 5, |seen| seen.refuses_wide(7)),
+            ("number 10 for a character outside the value's range", 1, |seen| seen.refuses_wide(10)),
+        ],
     },
     Call { name: "handout", numbers: &[(0, 135), (1, 90), (15, 110), (16, 150)], kinds: &[] },
     Call {
         name: "list",
         numbers: &[(0, 350), (1, 45), (2, 95)],
         kinds: &[
-            ("more than one row", 75, |answer| matches!(answer, ["0", _, rows] if rows.contains(','))),
-            ("more than one notice in a row", 15, |answer| matches!(answer, ["0", _, rows] if counts_several(rows))),
+            ("more than one row", 75, |seen| seen.has_rows()),
+            ("more than one notice in a row", 15, |seen| seen.counts_several()),
         ],
     },
     Call { name: "read", numbers: &[(0, 240), (17, 255)], kinds: &[] },
@@ -73,31 +114,17 @@ const CALLS: [Call; 8] = [
     Call {
         name: "program",
         numbers: &[
-            (0, 270), (4, 11), (5, 60), (6, 11), (7, 75), (8, 8), (9, 5), (10, 14), (11, 14),
-            (12, 5), (13, 5), (14, 10),
+            (0, 269), (4, 10), (5, 76), (6, 12), (7, 62), (8, 6), (9, 4), (10, 14), (11, 15),
+            (12, 9), (13, 7), (14, 10),
         ],
-        kinds: &[],
+        kinds: &[
+            ("a character of 2 bytes in the text", 140, |seen| seen.has_character(2)),
+            ("a character of 3 bytes in the text", 72, |seen| seen.has_character(3)),
+            ("a character of 4 bytes in the text", 71, |seen| seen.has_character(4)),
+            ("malformed UTF-8 refused", 21, |seen| seen.is_malformed()),
+        ],
     },
 ];
-
-/// Whether a conversion gives a header, text and audio choice.
-fn is_active(answer: &[&str]) -> bool {
-    matches!(answer, ["0", _, header, _, _, _, _] if *header != "-")
-}
-
-/// Whether the Canadian mode gives a text and an audio choice.
-fn is_said(answer: &[&str]) -> bool {
-    matches!(answer, ["0", _, _, _, text] if *text != "-")
-}
-
-/// Whether a text in hex is that of a broadcastText: in generated messages these alone begin with B.
-fn is_broadcast(text: &str) -> bool {
-    text.starts_with("42")
-}
-
-fn counts_several(rows: &str) -> bool {
-    rows.split(',').any(|row| row.split_once(':').is_some_and(|(_, count)| count != "1"))
-}
 
 fn found(name: &str) -> Option<&'static Call> {
     CALLS.iter().find(|call| call.name == name)
@@ -113,20 +140,7 @@ pub fn all_calls() -> impl Iterator<Item = &'static str> {
 
 /// The number in an answer to a call.
 pub fn number(call: &str, answer: &str) -> Option<u32> {
-    match known_call(call)? {
-        "program" => printed_number(answer),
-        _ => answer.split(' ').next()?.parse().ok(),
-    }
-}
-
-/// The number in what the program prints, which is given in hex.
-fn printed_number(hex: &str) -> Option<u32> {
-    let printed = hex.strip_prefix("6e756d62657220")?;
-    let digits = printed.as_bytes().chunks(2).map_while(|pair| match pair {
-        [b'3', digit] if digit.is_ascii_digit() => Some(char::from(*digit)),
-        _ => None,
-    });
-    digits.collect::<String>().parse().ok()
+    number_in(known_call(call)?, answer)
 }
 
 /// How often each call was compared, by number and by kind.
@@ -137,15 +151,15 @@ pub struct Counts {
 }
 
 impl Counts {
-    /// Counts an answer; says whether it is one of a call.
-    pub fn add(&mut self, call: &str, answer: &str) -> bool {
-        let (Some(call), Some(number)) = (found(call), number(call, answer)) else {
+    /// Counts the answer to a case; says whether it is one of a call.
+    pub fn add(&mut self, case: &str, answer: &str) -> bool {
+        let call = case.split(' ').next().and_then(found);
+        let (Some(call), Some(seen)) = (call, Seen::of(case, answer)) else {
             return false;
         };
-        *self.numbers.entry((call.name, number)).or_default() += 1;
-        let fields: Vec<&str> = answer.split(' ').collect();
-        for (kind, _, has) in call.kinds {
-            *self.kinds.entry((call.name, kind)).or_default() += usize::from(has(&fields));
+        *self.numbers.entry((call.name, seen.number())).or_default() += 1;
+        for (kind, _, is_seen) in call.kinds {
+            *self.kinds.entry((call.name, kind)).or_default() += usize::from(is_seen(&seen));
         }
         true
     }

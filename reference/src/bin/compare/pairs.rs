@@ -15,17 +15,17 @@ const FLOOR_OF_ZEROS: usize = 250;
 
 /// The kinds of difference in what is not read, and in what is read.
 #[rustfmt::skip]
-const UNREAD: [&str; 18] = [
+const UNREAD: [&str; 20] = [
     "comment-put-in-before", "comment-changed-before", "comment-taken-out-before",
     "comment-put-in-inside", "comment-changed-inside", "comment-taken-out-inside",
     "comment-put-in-value", "comment-changed-value", "comment-taken-out-value",
     "comment-put-in-behind", "comment-changed-behind", "comment-taken-out-behind",
     "skipped-put-in", "skipped-taken-out", "skipped-inside", "skipped-attributes", "skipped-name",
-    "later-info",
+    "later-info", "wide-comment-put-in", "wide-skipped-put-in",
 ];
 #[rustfmt::skip]
-const READ: [&str; 8] = [
-    "value-changed", "element-put-into-leaf", "leaf-repeated", "leaf-taken-out",
+const READ: [&str; 9] = [
+    "value-changed", "value-widened", "element-put-into-leaf", "leaf-repeated", "leaf-taken-out",
     "container-repeated", "container-taken-out", "later-language-changed", "later-info-taken-out",
 ];
 

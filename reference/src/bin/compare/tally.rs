@@ -25,7 +25,7 @@ impl Tally {
             }
             return false;
         }
-        if !self.counts.add(call_of(case), &answers[0]) {
+        if !self.counts.add(case, &answers[0]) {
             self.others += 1;
         }
         true

@@ -284,11 +284,12 @@ fn break_sent(record: &mut [u8], chance: &mut Chance) {
 }
 
 fn break_word(record: &mut [u8], at: usize, chance: &mut Chance) {
-    match chance.below(5) {
+    match chance.below(6) {
         0 => record[at..at + 64].fill(0),
         1 => record[at] = 0,
         2 => record[at + 10 + chance.below(54)] = b'a',
         3 => record[at + 63] = b'z',
+        4 => record[at + 1..at + 3].copy_from_slice(b"\xc3\xa9"),
         _ => record[at + chance.below(2)] = chance.pick(b",<& \x7f\x1f\x80\xff!~;="),
     }
 }

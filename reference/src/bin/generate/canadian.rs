@@ -5,14 +5,20 @@ use std::ops::RangeInclusive;
 
 use crate::chance::Chance;
 use crate::draft::{Draft, Edit};
+use crate::letters::put_over;
 use crate::sound::{broadcast, broadcast_text, broadcast_value, quiet, resources};
+use crate::wide::{wide_canadian_cut, wide_uri};
 use crate::wrong::WRONG;
 
 #[rustfmt::skip]
-pub const CANADIAN: [Edit; 12] = [
+pub const CANADIAN: [Edit; 15] = [
     broadcast_text, broadcast_text, long_broadcast_text, long_description, long_description,
     long_instruction, lacking, lacking_and_refused, not_asked, not_quiet, resources, resources,
+    wide_canadian_cut, wide_canadian_cut, wide_uri,
 ];
+
+/// Those that make texts which are cut, or nearly.
+pub const CANADIAN_CUTS: [Edit; 3] = [long_broadcast_text, long_description, long_instruction];
 
 /// A broadcastText round 1,800 characters, some with a space as the last of these.
 fn long_broadcast_text(draft: &mut Draft, chance: &mut Chance) {
@@ -21,8 +27,8 @@ fn long_broadcast_text(draft: &mut Draft, chance: &mut Chance) {
     };
     let length = chance.pick(&[1797, 1798, 1799, 1800, 1801, 2500]);
     let mut value = broadcast_value(length, chance);
-    if value.len() > 1800 && chance.once_in(2) {
-        value.replace_range(1798..1801, "x y");
+    if length >= 1800 && chance.once_in(2) {
+        put_over(&mut value, 1798, "x y");
     }
     info.add(broadcast(&value, chance));
 }

@@ -1,12 +1,16 @@
 //! Seeded chance: the same seed gives the same choices.
 
+use crate::letters::Spelling;
+
 pub struct Chance {
     state: u64,
+    /// How texts are spelled; by chance where it is not said.
+    spelling: Option<Spelling>,
 }
 
 impl Chance {
     pub fn seeded(seed: u64) -> Chance {
-        Chance { state: seed }
+        Chance { state: seed, spelling: None }
     }
 
     fn next(&mut self) -> u64 {
@@ -34,19 +38,39 @@ impl Chance {
         items[self.below(items.len())]
     }
 
-    /// Text of exactly this length that collapsing leaves as it is.
+    /// What comes of making something whose texts are all spelled so.
+    pub fn spelled<T>(&mut self, spelling: Spelling, make: impl FnOnce(&mut Chance) -> T) -> T {
+        let before = self.spelling.replace(spelling);
+        let made = make(self);
+        self.spelling = before;
+        made
+    }
+
+    fn spelling(&mut self) -> Spelling {
+        match self.below(8) {
+            0..=3 => Spelling::Plain,
+            4 | 5 => Spelling::Accented,
+            6 => Spelling::Mixed,
+            _ => Spelling::Of(self.pick(&[2, 3, 4])),
+        }
+    }
+
+    /// Text of exactly this many characters that collapsing leaves as it is.
     pub fn text(&mut self, length: usize) -> String {
+        let spelling = self.spelling.unwrap_or_else(|| self.spelling());
+        let spaced = !matches!(spelling, Spelling::Of(_));
         let mut text = String::new();
         for place in 0..length {
             let inside = place > 0 && place + 1 < length && !text.ends_with(' ');
-            let letter = match self.below(40) {
-                0..=5 if inside => ' ',
-                6 => self.pick(&['<', '&', '>', '"', '\'', ']', '-', '~', '!', '*', '.']),
-                _ => char::from(b'a' + self.below(26) as u8),
-            };
-            text.push(letter);
+            let space = spaced && inside && self.below(7) == 0;
+            text.push(if space { ' ' } else { spelling.letter(self) });
         }
         text
+    }
+
+    /// Such a text in ASCII.
+    pub fn plain_text(&mut self, length: usize) -> String {
+        self.spelled(Spelling::Plain, |chance| chance.text(length))
     }
 
     /// A sender or an identifier of this length.

@@ -103,10 +103,14 @@ pub fn station(chance: &mut Chance) -> Vec<u8> {
 /// A station that is none, or has a byte just inside its range.
 pub fn odd_station(chance: &mut Chance) -> Vec<u8> {
     let mut station = station(chance);
-    match chance.below(8) {
+    match chance.below(9) {
         0 => station.clear(),
         1 => station.truncate(7),
         2 => station.push(b'1'),
+        3 => {
+            station.truncate(chance.pick(&[6, 6, 7]));
+            station.extend("é".bytes());
+        }
         _ => {
             let place = chance.below(8);
             station[place] = chance.pick(b"-+\x1f\x7f\x80\x00 ~*,.\xff");

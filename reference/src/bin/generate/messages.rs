@@ -7,6 +7,7 @@ use crate::headers::{odd_station, station};
 use crate::hex::to_hex;
 use crate::render::render;
 use crate::sound::{cancel, languages, SOUND};
+use crate::unread::one_of;
 use crate::wrong::WRONG;
 
 fn sound_draft(most_edits: usize, chance: &mut Chance) -> Draft {
@@ -65,18 +66,38 @@ fn damaged(chance: &mut Chance) -> Vec<u8> {
     message
 }
 
+const BYTES: &[u8] = b"<>&;/=\"'- \n!?]:a0\x00\x7f\x80\xa9\xc3\xe2\xed\xf0\xff";
+
+/// Damages a byte of a character beyond ASCII, if there is one.
+fn damage_character(message: &mut Vec<u8>, chance: &mut Chance) {
+    let places = (0..message.len()).filter(|place| !message[*place].is_ascii());
+    let Some(place) = one_of(places, chance) else {
+        return;
+    };
+    match chance.below(5) {
+        0 => {
+            message.remove(place);
+        }
+        1 => message.insert(place, message[place]),
+        2 => message.truncate(place + chance.below(2)),
+        3 => message[place] ^= 1 << chance.below(8),
+        _ => message[place] = chance.pick(BYTES),
+    }
+}
+
 fn damage(message: &mut Vec<u8>, chance: &mut Chance) {
     if message.is_empty() {
         return;
     }
     let place = chance.below(message.len());
-    match chance.below(7) {
+    match chance.below(8) {
         0 => message.truncate(place),
         1 => {
             message.remove(place);
         }
-        2 => message.insert(place, chance.pick(b"<>&;/=\"'- \n!?]:a0\x00\x7f\xff")),
-        3 => message[place] = chance.pick(b"<>&;/=\"'- \n!?]:a0\x00\x7f\xff"),
+        2 => message.insert(place, chance.pick(BYTES)),
+        3 => message[place] = chance.pick(BYTES),
+        7 => damage_character(message, chance),
         4 => message[place] ^= 1 << chance.below(8),
         5 => {
             let end = (place + 1 + chance.below(40)).min(message.len());
@@ -116,7 +137,7 @@ fn message(turn: usize, chance: &mut Chance) -> Vec<u8> {
     }
 }
 
-/// The lengths of lent outputs, most often long enough.
+/// The lengths of lent outputs, most often long enough; the last but one is that of the text.
 fn caps<const COUNT: usize>(
     least: [usize; COUNT],
     turn: usize,
@@ -129,9 +150,10 @@ fn caps<const COUNT: usize>(
     }
     if turn % 20 == 19 {
         let place = chance.below(COUNT);
-        match chance.below(3) {
+        match chance.below(4) {
             0 => caps[place] -= 1,
             1 => caps[place] = chance.pick(&[0, 1, 100, 65_280]),
+            2 => caps[COUNT - 2] = chance.pick(&[1799, 1800, 1800, 1801, 7198, 7199]),
             _ => {}
         }
     }
@@ -141,7 +163,7 @@ fn caps<const COUNT: usize>(
 pub fn convert_case(turn: usize, chance: &mut Chance) -> String {
     let message = message(turn, chance);
     let mut station = station(chance);
-    let [header, text, uri] = caps([252, 1800, 1024], turn, chance);
+    let [header, text, uri] = caps([252, 7200, 1024], turn, chance);
     if turn % 20 == 19 && chance.once_in(2) || chance.once_in(60) {
         station = odd_station(chance);
     }
@@ -163,7 +185,7 @@ fn canadian_message(turn: usize, chance: &mut Chance) -> Vec<u8> {
 
 pub fn canadian_case(turn: usize, chance: &mut Chance) -> String {
     let message = canadian_message(turn, chance);
-    let [text, uri] = caps([1800, 1024], turn, chance);
+    let [text, uri] = caps([7200, 1024], turn, chance);
     format!("canadian {} {text} {uri}", to_hex(&message))
 }
 

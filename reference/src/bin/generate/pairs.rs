@@ -87,7 +87,7 @@ impl Differences {
 
 /// Whether a message has the length and is of the subset.
 fn is_allowed(message: &[u8]) -> bool {
-    let (mut header, mut text, mut uri) = ([0; 252], [0; 1800], [0; 1024]);
+    let (mut header, mut text, mut uri) = ([0; 252], [0; 7200], [0; 1024]);
     let outcome = reference::convert(message, b"BENCH/01", &mut header, &mut text, &mut uri);
     !outcome.is_err_and(|refusal| matches!(refusal.number, 4 | 5))
 }

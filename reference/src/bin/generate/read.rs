@@ -1,11 +1,13 @@
 //! Differences in what is read.
 
 use crate::chance::Chance;
+use crate::letters::of_length;
 use crate::tree::{Element, Place, Tree};
 use crate::unread::{one_of, write_element, Change, Difference};
 
-pub const READ: [Difference; 8] = [
+pub const READ: [Difference; 9] = [
     ("value-changed", |tree, chance| change_value(tree, is_leaf, chance)),
+    ("value-widened", |tree, chance| widen_value(tree, is_leaf, chance)),
     ("element-put-into-leaf", put_element),
     ("leaf-repeated", |tree, chance| repeat(tree, is_leaf, chance)),
     ("leaf-taken-out", |tree, chance| take_out(tree, is_leaf, chance)),
@@ -17,8 +19,9 @@ pub const READ: [Difference; 8] = [
 
 /// Differences on which the answers of the Canadian mode hang. They never hang on what is repeated
 /// whole.
-pub const READ_BY_CANADIAN: [Difference; 7] = [
+pub const READ_BY_CANADIAN: [Difference; 8] = [
     ("value-changed", |tree, chance| change_value(tree, is_canadian_leaf, chance)),
+    ("value-widened", |tree, chance| widen_value(tree, is_canadian_leaf, chance)),
     ("element-put-into-leaf", put_element),
     ("leaf-repeated", |tree, chance| repeat(tree, is_leaf, chance)),
     ("leaf-taken-out", |tree, chance| take_out(tree, is_leaf, chance)),
@@ -72,6 +75,14 @@ fn change_value(tree: &Tree, fits: Fits, chance: &mut Chance) -> Option<Change> 
     let leaf = some(tree, fits, chance)?;
     let value = chance.pick(&VALUES).as_bytes();
     Some((leaf.whole.clone(), write_element(leaf.name, leaf.attributes, value, chance)))
+}
+
+/// Puts a character of two bytes or more somewhere into a value.
+fn widen_value(tree: &Tree, fits: Fits, chance: &mut Chance) -> Option<Change> {
+    let leaves = tree.elements.iter().filter(|e| fits(e) && !e.spots.is_empty());
+    let leaf = one_of(leaves, chance)?;
+    let at = chance.pick(&leaf.spots);
+    Some((at..at, of_length(2 + chance.below(3), chance).to_string().into_bytes()))
 }
 
 fn put_element(tree: &Tree, chance: &mut Chance) -> Option<Change> {

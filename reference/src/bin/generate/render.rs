@@ -19,7 +19,7 @@ pub fn render(draft: &Draft, chance: &mut Chance) -> Vec<u8> {
     message
 }
 
-const COMMENTS: [&str; 7] = [
+const COMMENTS: [&str; 9] = [
     "<!---->",
     "<!-- - -->",
     "<!--->-->",
@@ -27,9 +27,11 @@ const COMMENTS: [&str; 7] = [
     "<!--\n-->",
     "<!--x-->",
     "<!--x--><!----><!--y-->",
+    "<!--é-->",
+    "<!--\u{800}\u{10ffff}-->",
 ];
 
-const SKIPPED: [&str; 7] = [
+const SKIPPED: [&str; 9] = [
     "<note/>",
     "<q:info><eventCode/></q:info>",
     "<z a = '1'\tb=\"&lt;>\" />",
@@ -37,6 +39,8 @@ const SKIPPED: [&str; 7] = [
     "<z><info><expires/></info>t</z>",
     "<contact\n>c<!-- -->d</contact\t>",
     "<z q:a=\"\" r:a=''/>",
+    "<web a='ñ'>¿&#xe9;?</web>",
+    "<z>\u{7f}<description>\u{1f4a7}</description></z>",
 ];
 
 struct Writer<'a> {
@@ -119,7 +123,7 @@ impl Writer<'_> {
 
     fn text(&mut self, text: &str) {
         self.gap();
-        for letter in text.bytes() {
+        for letter in text.chars() {
             if self.happens(self.style().comments * 8) {
                 let comment = self.chance.pick(&COMMENTS);
                 self.put(comment);
@@ -129,30 +133,30 @@ impl Writer<'_> {
         self.gap();
     }
 
-    fn letter(&mut self, letter: u8) {
+    fn letter(&mut self, letter: char) {
         let by_reference = self.happens(self.style().references);
         match letter {
-            b'<' if !by_reference => self.put("&lt;"),
-            b'&' if !by_reference => self.put("&amp;"),
-            b'>' if self.out.ends_with(b"]]") => self.put("&gt;"),
-            b'"' if by_reference => self.put("&quot;"),
-            b'\'' if by_reference => self.put("&apos;"),
-            b' ' => {
+            '<' if !by_reference => self.put("&lt;"),
+            '&' if !by_reference => self.put("&amp;"),
+            '>' if self.out.ends_with(b"]]") => self.put("&gt;"),
+            '"' if by_reference => self.put("&quot;"),
+            '\'' if by_reference => self.put("&apos;"),
+            ' ' => {
                 self.out.push(b' ');
                 self.gap();
             }
-            _ if by_reference => self.numbered(letter),
-            _ => self.out.push(letter),
+            _ if by_reference => self.numbered(letter.into()),
+            _ => self.put(letter.encode_utf8(&mut [0; 4])),
         }
     }
 
-    fn numbered(&mut self, letter: u8) {
-        let reference = match self.chance.below(5) {
-            0 => format!("&#{letter};"),
-            1 => format!("&#x{letter:x};"),
-            2 => format!("&#x{letter:X};"),
-            3 => format!("&#{letter:06};"),
-            _ => format!("&#x{letter:06x};"),
+    /// A reference of up to seven digits, some of them zeros before the number.
+    fn numbered(&mut self, number: u32) {
+        let digits = self.chance.pick(&[1, 1, 2, 3, 4, 5, 6, 7, 7]);
+        let reference = match self.chance.below(3) {
+            0 => format!("&#{number:0digits$};"),
+            1 => format!("&#x{number:0digits$x};"),
+            _ => format!("&#x{number:0digits$X};"),
         };
         self.put(&reference);
     }

@@ -2,16 +2,25 @@
 
 use crate::chance::Chance;
 use crate::draft::{group, info, Draft, Edit, Element, Style, NAMESPACE};
+use crate::letters::put_over;
 use crate::render::render;
 use crate::times::{time_text, END};
+use crate::wide::{
+    wide_attributes, wide_cut, wide_declaration, wide_fill, wide_language, wide_space, wide_uri,
+    wide_values,
+};
 
 #[rustfmt::skip]
-pub const SOUND: [Edit; 27] = [
+pub const SOUND: [Edit; 39] = [
     style, locations, parts, long_parts, long_parts, eas_text, broadcast_text, sender_name, period,
     border_of_time, resources, resources, originator, must_carry, must_carry, languages, update,
     cancel, quiet, shape, prefix, misplaced, empty_pairs, long_words, references_of_alert,
-    declaration, fill,
+    declaration, fill, wide_cut, wide_cut, wide_values, wide_language, wide_space, wide_uri, wide_uri,
+    wide_attributes, wide_declaration, wide_fill, must_carry, quiet,
 ];
+
+/// Those that make parts which are cut, or nearly.
+pub const CUTS: [Edit; 4] = [long_parts, long_parts, eas_text, sender_name];
 
 fn style(draft: &mut Draft, chance: &mut Chance) {
     let odds = [0, 1, 2, 8];
@@ -65,7 +74,7 @@ fn parts(draft: &mut Draft, chance: &mut Chance) {
     }
 }
 
-/// The length of a draft's text without some of its parts.
+/// How many characters a draft's text has without some of its parts.
 fn length_without(draft: &Draft, names: &[&str]) -> Option<usize> {
     let mut plain = draft.clone();
     plain.style = Style::default();
@@ -73,9 +82,9 @@ fn length_without(draft: &Draft, names: &[&str]) -> Option<usize> {
         plain.info()?.remove_all(name);
     }
     let message = render(&plain, &mut Chance::seeded(0));
-    let (mut header, mut text, mut uri) = ([0; 252], [0; 1800], [0; 1024]);
+    let (mut header, mut text, mut uri) = ([0; 252], [0; 7200], [0; 1024]);
     let done = reference::convert(&message, b"BENCH/01", &mut header, &mut text, &mut uri);
-    done.ok().map(|done| done.text)
+    done.ok().map(|done| String::from_utf8_lossy(&text[..done.text]).chars().count())
 }
 
 /// Description and instruction round the borders of their allotments.
@@ -124,6 +133,8 @@ fn eas_text(draft: &mut Draft, chance: &mut Chance) {
     }
 }
 
+pub const BROADCAST_TEXT: &str = "layer:AEA:2.0:broadcastText";
+
 /// Names that are not quite that of a broadcastText.
 #[rustfmt::skip]
 const NEARLY: [&str; 11] = [
@@ -135,7 +146,7 @@ const NEARLY: [&str; 11] = [
 
 /// The name of a broadcastText in some letter case, some with white space round it.
 fn broadcast_name(chance: &mut Chance) -> String {
-    let name = "layer:AEA:2.0:broadcastText";
+    let name = BROADCAST_TEXT;
     match chance.below(4) {
         0 => name.to_string(),
         1 => format!(" {}\n", name.to_ascii_lowercase()),
@@ -184,11 +195,10 @@ fn sender_name(draft: &mut Draft, chance: &mut Chance) {
     let length = chance.pick(&[0, 1, 2, 199, 200, 201, 250, 1900]);
     let mut name = chance.text(length);
     if length > 0 && chance.once_in(4) {
-        name.replace_range(length - 1.., ".");
+        put_over(&mut name, length - 1, ".");
     }
-    if length > 200 && chance.once_in(2) {
-        name.replace_range(198..200, "x ");
-        name.replace_range(200..201, "y");
+    if length > 200 && chance.once_in(4) {
+        put_over(&mut name, 198, "x y");
     }
     if let Some(info) = draft.info() {
         info.put("senderName", &name);
@@ -226,7 +236,7 @@ fn border_of_time(draft: &mut Draft, chance: &mut Chance) {
 }
 
 /// The mimeTypes that count.
-const AUDIO: [&str; 3] =
+pub const AUDIO: [&str; 3] =
     ["audio/x-ipaws-audio-mp3", "audio/x-ipaws-audio-wav", "audio/x-ipaws-streaming-audio-mp3"];
 
 pub fn resources(draft: &mut Draft, chance: &mut Chance) {
@@ -244,7 +254,7 @@ pub fn resources(draft: &mut Draft, chance: &mut Chance) {
         }
         let length = chance.pick(&[0, 1, 1, 20, 20, 1023, 1024, 1024, 1025, 1100]);
         if !chance.once_in(6) {
-            resource.add(Element::leaf("uri", &chance.text(length)));
+            resource.add(Element::leaf("uri", &chance.plain_text(length)));
         }
         info.add(resource);
     }
@@ -369,12 +379,17 @@ pub fn quiet(draft: &mut Draft, chance: &mut Chance) {
 
 /// Bytes that the subset allows in any container.
 #[rustfmt::skip]
-const SHAPES: [&str; 26] = [
+const SHAPES: [&str; 42] = [
     "<a/>", "<a />", "<a></a >", "<a b = '1' c=\"2\"/>", "<a b=\">\"/>", "<a b=\"]]> --\"/>",
     "<a b='\"' c=\"'\"/>", "<!---->", "<!-- - -->", "<!--->-->", "<!--]]> & <-->", "loose", "]]",
     "]>", "]] >", ">", "]]&gt;", "]]<!-- -->>", "&#9;&#10;&#13;&#32;", "&#126;&#x7E;&#x7e;",
     "&#000126;&#x00007e;", "&lt;&gt;&amp;&quot;&apos;", "<_a.-9:_b.-9/>", "<a\n\tb\r=\n'&#60;'\t/>",
-    "<a b='' B='' a:b='' b:b=''/>", "<q:identifier>Z</q:identifier>",
+    "<a b='' B='' a:b='' b:b=''/>", "<q:identifier>Z</q:identifier>", "\u{7f}", "<a b='\u{7f}'/>",
+    "&#127;&#x7f;&#x80;", "&#0000126;&#x000007e;", "&#999999;&#x100041;", "é", "\u{80}\u{7ff}",
+    "\u{800}\u{d7ff}\u{e000}\u{fffd}", "\u{10000}\u{10ffff}", "&#233;&#xe9;&#0000233;&#x00000E9;",
+    "&#xd7FF;&#xE000;&#xfffd;&#x10000;", "&#1114111;&#x10ffff;&#x010FFFF;&#x1fffe;",
+    "<a b='é&#xe9;' c=\"\u{10ffff}&#x10FFFF;\"/>", "<!--é\u{800}\u{10ffff}-->",
+    "<a>\u{a0}&#160;</a>", "]]\u{13e}",
 ];
 
 fn shape(draft: &mut Draft, chance: &mut Chance) {
@@ -489,7 +504,7 @@ fn declaration(draft: &mut Draft, chance: &mut Chance) {
         b"<?xml ?>",
         b"<?xml\n?>",
         b"<?xml <a & b ?>\n",
-        b"<?xml \x80\x00\xff?>",
+        b"<?xml \xc2\x80\x00\xc3\xbf?>",
         b"<?xml > ? >?>",
         b"",
     ];

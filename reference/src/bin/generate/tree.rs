@@ -82,7 +82,7 @@ pub struct Element<'a> {
     pub spots: Vec<usize>,
     pub holds_element: bool,
     /// Its decoded text up to the first element in it.
-    text: Vec<u8>,
+    text: String,
 }
 
 impl Element<'_> {
@@ -94,9 +94,8 @@ impl Element<'_> {
         }
     }
 
-    fn value(&self) -> Vec<u8> {
-        let words = self.text.split(u8::is_ascii_whitespace).filter(|word| !word.is_empty());
-        words.collect::<Vec<_>>().join(&b' ')
+    fn value(&self) -> String {
+        self.text.split_ascii_whitespace().collect::<Vec<_>>().join(" ")
     }
 }
 
@@ -105,7 +104,7 @@ impl Element<'_> {
 #[derive(PartialEq)]
 pub struct Kept<'a> {
     root: (&'a [u8], &'a [u8]),
-    read: Vec<(usize, &'a [u8], Option<(Vec<u8>, bool)>)>,
+    read: Vec<(usize, &'a [u8], Option<(String, bool)>)>,
 }
 
 pub struct Tree<'a> {
@@ -224,7 +223,7 @@ impl<'a> Tree<'a> {
             whole: start..start,
             spots: Vec::new(),
             holds_element: false,
-            text: Vec::new(),
+            text: String::new(),
         });
         if self.rest().starts_with(b">") {
             self.at += 1;
@@ -265,9 +264,9 @@ impl<'a> Tree<'a> {
                     self.element(place, depth + 1);
                 }
                 _ => {
-                    let byte = self.character();
+                    let character = self.character();
                     if !self.elements[index].holds_element {
-                        self.elements[index].text.push(byte);
+                        self.elements[index].text.push(character);
                     }
                 }
             }
@@ -275,23 +274,26 @@ impl<'a> Tree<'a> {
         self.elements[index].inside = &self.message[start..self.at];
     }
 
-    /// The next byte of a text, or what a reference stands for.
-    fn character(&mut self) -> u8 {
+    /// The next character of a text, or what a reference stands for.
+    fn character(&mut self) -> char {
         let start = self.at;
-        self.at += 1;
         if self.message[start] != b'&' {
-            return self.message[start];
+            self.at += 1;
+            self.pass_while(|b| (0x80..0xc0).contains(&b));
+            let read = std::str::from_utf8(&self.message[start..self.at]);
+            let letter = read.ok().and_then(|read| read.chars().next());
+            return letter.expect("A message of the subset is well formed.");
         }
         self.pass(b";");
         match &self.message[start + 1..self.at - 1] {
-            b"lt" => b'<',
-            b"gt" => b'>',
-            b"amp" => b'&',
-            b"quot" => b'"',
-            b"apos" => b'\'',
+            b"lt" => '<',
+            b"gt" => '>',
+            b"amp" => '&',
+            b"quot" => '"',
+            b"apos" => '\'',
             [b'#', b'x', digits @ ..] => numbered(digits, 16),
             [_, digits @ ..] => numbered(digits, 10),
-            [] => 0,
+            [] => '\0',
         }
     }
 
@@ -301,12 +303,13 @@ impl<'a> Tree<'a> {
         let language = self.elements[info + 1..]
             .iter()
             .find(|element| element.depth == depth && self.local(element.name) == b"language");
-        let value = language.map_or(Vec::new(), Element::value);
-        value.is_empty() || value.eq_ignore_ascii_case(b"en-US")
+        let value = language.map_or(String::new(), Element::value);
+        value.is_empty() || value.eq_ignore_ascii_case("en-US")
     }
 }
 
-fn numbered(digits: &[u8], radix: u32) -> u8 {
+fn numbered(digits: &[u8], radix: u32) -> char {
     let digits = digits.iter().filter_map(|b| char::from(*b).to_digit(radix));
-    digits.fold(0, |number, digit| number * radix as u8 + digit as u8)
+    let number = digits.fold(0, |number, digit| number * radix + digit);
+    char::from_u32(number).expect("A reference of the subset is to a character.")
 }

@@ -3,6 +3,7 @@
 use std::ops::Range;
 
 use crate::chance::Chance;
+use crate::letters::of_length;
 use crate::tree::{Element, Place, Region, Tree};
 
 /// The bytes that go, and those that come in their place.
@@ -12,12 +13,14 @@ pub type Change = (Range<usize>, Vec<u8>);
 pub type Difference = (&'static str, fn(&Tree, &mut Chance) -> Option<Change>);
 
 /// What is put in comes first.
-pub const UNREAD: [Difference; 18] = [
+pub const UNREAD: [Difference; 20] = [
     ("comment-put-in-before", |tree, chance| put_comment(tree, Region::Before, chance)),
     ("comment-put-in-inside", |tree, chance| put_comment(tree, Region::Inside, chance)),
     ("comment-put-in-value", |tree, chance| put_comment(tree, Region::Value, chance)),
     ("comment-put-in-behind", |tree, chance| put_comment(tree, Region::Behind, chance)),
     ("skipped-put-in", put_skipped),
+    ("wide-comment-put-in", put_wide_comment),
+    ("wide-skipped-put-in", put_wide_skipped),
     ("comment-changed-before", |tree, chance| change_comment(tree, Region::Before, chance)),
     ("comment-changed-inside", |tree, chance| change_comment(tree, Region::Inside, chance)),
     ("comment-changed-value", |tree, chance| change_comment(tree, Region::Value, chance)),
@@ -36,9 +39,9 @@ pub const UNREAD: [Difference; 18] = [
 pub const LATER_INFO: Difference = ("later-info", change_later);
 
 /// How many of them put something in.
-pub const PUT_IN: usize = 5;
+pub const PUT_IN: usize = 7;
 
-const COMMENTS: [&str; 8] = [
+const COMMENTS: [&str; 10] = [
     "<!---->",
     "<!-- - -->",
     "<!--->-->",
@@ -47,13 +50,15 @@ const COMMENTS: [&str; 8] = [
     "<!--\r\n\t-->",
     "<!--en-US-->",
     "<!--</identifier><identifier>B2-->",
+    "<!--é-->",
+    "<!--\u{13e}\u{800}\u{10ffff}-->",
 ];
 
 const BROADCAST_TEXT: &str = "<@parameter><@valueName>layer:AEA:2.0:broadcastText</@valueName>\
     <@value>B</@value></@parameter>";
 
 /// What a skipped element may hold.
-const INSIDE: [&str; 14] = [
+const INSIDE: [&str; 17] = [
     "x",
     " \r\n\t",
     "&amp;",
@@ -68,10 +73,13 @@ const INSIDE: [&str; 14] = [
     "<@eventCode><@valueName>SAME</@valueName><@value>CEM</@value></@eventCode>",
     "<@info><@expires/><@expires/></@info>",
     BROADCAST_TEXT,
+    "ñ&#xF1;&#0000241;",
+    "<@description>\u{a0}\u{10ffff}</@description>",
+    "<@identifier>\u{7f}</@identifier>",
 ];
 
 /// What a later info may hold beside its language.
-const IN_LATER: [&str; 12] = [
+const IN_LATER: [&str; 14] = [
     "",
     "text",
     "<!--<language>en-US</language>-->",
@@ -84,9 +92,11 @@ const IN_LATER: [&str; 12] = [
     "<@parameter><@valueName>EAS-ORG</@valueName><@value>PEP</@value></@parameter>",
     BROADCAST_TEXT,
     "<@area><@geocode><@valueName>SAME</@valueName><@value>1</@value></@geocode></@area>",
+    "<@senderName>Doña Ana</@senderName>",
+    "\u{fffd}<!--\u{80}--><@expires>\u{1f4a7}</@expires>",
 ];
 
-const ATTRIBUTES: [&str; 7] = [
+const ATTRIBUTES: [&str; 9] = [
     "",
     "\n",
     " a='1'",
@@ -94,6 +104,8 @@ const ATTRIBUTES: [&str; 7] = [
     " xmlns='urn:x' xmlns:q='urn:oasis:names:tc:emergency:cap:1.2'",
     " xmlns=\"urn:oasis:names:tc:emergency:cap:1.2\" ",
     " language='en-US' status='Test'",
+    " a='é' b=\"&#xe9;\"",
+    " a='\u{7f}\u{13e}\u{10ffff}'",
 ];
 
 /// Names that are read somewhere, and others.
@@ -148,6 +160,25 @@ fn put_comment(tree: &Tree, region: Region, chance: &mut Chance) -> Option<Chang
     Some((at..at, comment(chance)))
 }
 
+/// Some characters of two bytes and more, as they stand or by reference.
+fn wide(chance: &mut Chance) -> String {
+    let mut text = String::new();
+    for _ in 0..=chance.below(3) {
+        let letter = of_length(2 + chance.below(3), chance);
+        match chance.below(3) {
+            0 => text += &format!("&#x{:x};", u32::from(letter)),
+            _ => text.push(letter),
+        }
+    }
+    text
+}
+
+fn put_wide_comment(tree: &Tree, chance: &mut Chance) -> Option<Change> {
+    let region = chance.pick(&[Region::Before, Region::Inside, Region::Value, Region::Behind]);
+    let (range, _) = put_comment(tree, region, chance)?;
+    Some((range, format!("<!--{}-->", wide(chance)).into_bytes()))
+}
+
 fn some_comment(tree: &Tree, region: Region, chance: &mut Chance) -> Option<Range<usize>> {
     let fits = tree.comments.iter().filter(|(stands, _)| *stands == region);
     one_of(fits, chance).map(|(_, range)| range.clone())
@@ -177,11 +208,28 @@ fn skipped_name(tree: &Tree, parent: Place, chance: &mut Chance) -> Vec<u8> {
 }
 
 fn put_skipped(tree: &Tree, chance: &mut Chance) -> Option<Change> {
+    let attributes = chance.pick(&ATTRIBUTES);
+    let inside = inside(tree, chance);
+    put_element(tree, attributes, &inside, chance)
+}
+
+/// A skipped element with wide characters in an attribute and in what it holds.
+fn put_wide_skipped(tree: &Tree, chance: &mut Chance) -> Option<Change> {
+    let (attributes, inside) = (format!(" a='{}'", wide(chance)), wide(chance));
+    put_element(tree, &attributes, inside.as_bytes(), chance)
+}
+
+/// A skipped element with these attributes that holds this.
+fn put_element(
+    tree: &Tree,
+    attributes: &str,
+    inside: &[u8],
+    chance: &mut Chance,
+) -> Option<Change> {
     let fits = |element: &&Element| element.place.is_container() && !element.spots.is_empty();
     let element = one_of(tree.elements.iter().filter(fits), chance)?;
     let name = skipped_name(tree, element.place, chance);
-    let attributes = chance.pick(&ATTRIBUTES).as_bytes();
-    let written = write_element(&name, attributes, &inside(tree, chance), chance);
+    let written = write_element(&name, attributes.as_bytes(), inside, chance);
     let at = chance.pick(&element.spots);
     Some((at..at, written))
 }

@@ -4,9 +4,13 @@ use crate::chance::Chance;
 use crate::draft::{Draft, Edit, Element, Node, NAMESPACE};
 use crate::sound::{groups, nested, time_at_the_end};
 use crate::times::{time_text, END};
+use crate::wide::{
+    illegal, malformed, misplaced_wide, wide_event, wide_expires, wide_leaf, wide_location,
+    wide_originator, wide_references, wide_root,
+};
 
 /// The edits, each with the number that it is most often answered by.
-pub const WRONG: [(u8, Edit); 26] = [
+pub const WRONG: [(u8, Edit); 38] = [
     (4, too_long),
     (5, odd_bytes),
     (5, odd_bytes),
@@ -33,6 +37,18 @@ pub const WRONG: [(u8, Edit); 26] = [
     (14, expires_not_after),
     (11, no_info),
     (7, leaf_blank),
+    (5, malformed),
+    (5, malformed),
+    (5, illegal),
+    (5, misplaced_wide),
+    (6, wide_root),
+    (7, wide_leaf),
+    (7, wide_leaf),
+    (10, wide_references),
+    (11, wide_event),
+    (12, wide_originator),
+    (13, wide_location),
+    (14, wide_expires),
 ];
 
 const SIX: [&str; 6] = ["identifier", "sender", "sent", "status", "msgType", "scope"];
@@ -43,17 +59,16 @@ fn too_long(draft: &mut Draft, chance: &mut Chance) {
 
 /// Bytes that the subset allows nowhere.
 #[rustfmt::skip]
-const ODD: [&[u8]; 74] = [
+const ODD: [&[u8]; 66] = [
     b"<a>", b"</a>", b"<a></b>", b"<a></A>", b"<a><b></a></b>", b"<a b=1/>", b"<a b='1'c='2'/>",
     b"<a b='1' b='2'/>", b"<a c='' b='1' d='b=' b=\"1\" />", b"<a b='<'/>", b"<a b='x\"/>",
     b"<a b/>", b"<a b= />", b"<a =''/>", b"< a/>", b"<a/ >", b"<a / >", b"<a></ a>", b"<a></a b=''>",
     b"<a></a/>", b"&", b"&;", b"&foo;", b"&lt", b"&LT;", b"& lt;", b"&#;", b"&#x;", b"&#X41;",
-    b"&#0;", b"&#8;", b"&#11;", b"&#31;", b"&#127;", b"&#x7f;", b"&#x1F;", b"&#0000065;",
-    b"&#x0000041;", b"&#999999;", b"&#x100041;", b"&#6a;", b"&#x4g;", b"&#65", b"&#-1;", b"&#+65;",
-    b"]]>", b"]]]>", b"<!-->", b"<!--->", b"<!--a--->", b"<!-- -- -->", b"<!-a-->", b"<!--a->",
-    b"<![CDATA[x]]>", b"<!DOCTYPE a>", b"<?pi x?>", b"<?xml version='1.0'?>", b"\x00", b"\x08",
-    b"\x0b", b"\x1f", b"\x7f", b"\x80", b"\xc3\xa9", b"\xff", b"<1a/>", b"<-a/>", b"<.a/>",
-    b"<a:/>", b"<:a/>", b"<a:b:c/>", b"<a:1/>", b"<a b='\x7f'/>", b"<!--\x80-->",
+    b"&#0;", b"&#8;", b"&#11;", b"&#31;", b"&#x1F;", b"&#00000065;", b"&#x00000041;", b"&#6a;",
+    b"&#x4g;", b"&#65", b"&#-1;", b"&#+65;", b"]]>", b"]]]>", b"<!-->", b"<!--->", b"<!--a--->",
+    b"<!-- -- -->", b"<!-a-->", b"<!--a->", b"<![CDATA[x]]>", b"<!DOCTYPE a>", b"<?pi x?>",
+    b"<?xml version='1.0'?>", b"\x00", b"\x08", b"\x0b", b"\x1f", b"\x80", b"\xff", b"<1a/>",
+    b"<-a/>", b"<.a/>", b"<a:/>", b"<:a/>", b"<a:b:c/>", b"<a:1/>",
 ];
 
 fn odd_bytes(draft: &mut Draft, chance: &mut Chance) {
@@ -65,7 +80,7 @@ fn odd_bytes(draft: &mut Draft, chance: &mut Chance) {
         1 => long_prefixed.as_bytes(),
         2 => long_attribute.as_bytes(),
         3 => b"<a b='&'/>",
-        4 => b"<a b=\"&#x7f;\"/>",
+        4 => b"<a b=\"&#x1f;\"/>",
         _ => chance.pick(&ODD),
     };
     let paths: [&[&str]; 6] = [
