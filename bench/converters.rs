@@ -21,13 +21,13 @@ const STATION: &[u8; 8] = b"BENCH/01";
 #[derive(PartialEq)]
 pub struct Outputs {
     header: [u8; 252],
-    text: [u8; 1800],
+    text: [u8; 7200],
     uri: [u8; 1024],
 }
 
 impl Outputs {
     pub fn new() -> Outputs {
-        Outputs { header: [0; 252], text: [0; 1800], uri: [0; 1024] }
+        Outputs { header: [0; 252], text: [0; 7200], uri: [0; 1024] }
     }
 
     pub fn clear(&mut self) {

@@ -1,6 +1,6 @@
-//! bench MESSAGES SEED: our conversion, the independent converter's and a fast one's, on the same messages, in one run: so many generated ones, and the worst
-//! beside plain text. Every answer is compared: number, field, lengths, and every byte of the outputs; those to damaged copies too, which are not timed. Nothing is
-//! said of times where two answers differ. bench count CONVERTER MESSAGES SEED: only converts so many by one of them, and prints their bytes.
+//! bench MESSAGES SEED: our conversion, the independent converter's and a fast one's, on the same messages, in one run: so many generated ones of each set, and the
+//! worst beside plain text. Every answer is compared: number, field, lengths, and every byte of the outputs; those to damaged copies too, which are not timed.
+//! Nothing is said of times where two answers differ. bench count SET CONVERTER MESSAGES SEED: only converts so many by one of them, and prints their bytes.
 
 mod converters;
 mod damage;
@@ -10,7 +10,7 @@ mod worst;
 
 use converters::{alike, Convert, Outputs, CONVERTERS, COUNT};
 use damage::damaged;
-use messages::{message, Numbers};
+use messages::{message, Numbers, Spelling, SPELLINGS};
 use std::process::ExitCode;
 use std::time::Duration;
 use times::{timed, Times};
@@ -61,13 +61,13 @@ impl Tally {
     }
 }
 
-/// Generated messages and damaged copies of them are compared, and the generated ones timed.
-fn measure(count: u64, seed: u64) -> Result<(), String> {
+/// Generated messages of a set and damaged copies of them are compared, and the generated ones timed.
+fn measure(spelling: &Spelling, count: u64, seed: u64) -> Result<(), String> {
     let mut numbers = Numbers::new(seed);
     let (mut whole, mut broken) = (Tally::default(), Tally::default());
     let (mut times, mut out) = (Times::default(), Outputs::new());
     for _ in 0..count.div_ceil(HELD) {
-        let held: Vec<Vec<u8>> = (0..HELD).map(|_| message(&mut numbers)).collect();
+        let held: Vec<Vec<u8>> = (0..HELD).map(|_| message(&mut numbers, spelling)).collect();
         for message in &held {
             whole.add(message)?;
             for _ in 0..COPIES {
@@ -76,6 +76,7 @@ fn measure(count: u64, seed: u64) -> Result<(), String> {
         }
         times.add(&held, &mut out);
     }
+    println!("{}:", spelling.set);
     whole.print("messages")?;
     broken.print("damaged copies")?;
     times.print();
@@ -133,11 +134,13 @@ pub fn counted_conversions(convert: Convert, messages: &[Vec<u8>], out: &mut Out
 }
 
 /// Converts by one converter alone, and prints how many bytes.
-fn count(name: &str, count: u64, seed: u64) -> Result<(), String> {
+fn count(set: &str, name: &str, count: u64, seed: u64) -> Result<(), String> {
+    let spelling = SPELLINGS.iter().find(|spelling| spelling.set == set);
+    let spelling = spelling.ok_or("There is no such set.")?;
     let found = CONVERTERS.iter().find(|(known, _)| *known == name);
     let (_, convert) = found.ok_or("There is no such converter.")?;
     let mut numbers = Numbers::new(seed);
-    let messages: Vec<Vec<u8>> = (0..count).map(|_| message(&mut numbers)).collect();
+    let messages: Vec<Vec<u8>> = (0..count).map(|_| message(&mut numbers, spelling)).collect();
     counted_conversions(*convert, &messages, &mut Outputs::new());
     println!("{}", messages.iter().map(Vec::len).sum::<usize>());
     Ok(())
@@ -147,11 +150,13 @@ fn run(words: &[String]) -> Result<(), String> {
     let number = |word: &String| word.parse::<u64>().map_err(|_| format!("{word} is no number."));
     match words {
         [messages, seed] => {
-            measure(number(messages)?, number(seed)?)?;
+            for spelling in &SPELLINGS {
+                measure(spelling, number(messages)?, number(seed)?)?;
+            }
             measure_worst()
         }
-        [word, name, messages, seed] if word == "count" => {
-            count(name, number(messages)?, number(seed)?)
+        [word, set, name, messages, seed] if word == "count" => {
+            count(set, name, number(messages)?, number(seed)?)
         }
         _ => Err("Give the number of messages and the seed.".to_string()),
     }

@@ -45,7 +45,7 @@ pub fn plain() -> Vec<u8> {
     with_elements("")
 }
 
-pub fn messages() -> [(&'static str, Vec<u8>); 5] {
+pub fn messages() -> [(&'static str, Vec<u8>); 8] {
     [
         (
             "one start tag with 5,000 attributes",
@@ -60,6 +60,18 @@ pub fn messages() -> [(&'static str, Vec<u8>); 5] {
         (
             "4,600 comments in the description",
             alert(&format!("<description>{}", "<!---->".repeat(4_600))),
+        ),
+        (
+            "5,300 references in the description",
+            alert(&format!("<description>{}", "&#xe9;".repeat(5_300))),
+        ),
+        (
+            "16,000 characters of two bytes",
+            alert(&format!("<description>{}", "\u{e9}".repeat(16_000))),
+        ),
+        (
+            "8,000 characters of four bytes",
+            alert(&format!("<description>{}", "\u{1f30a}".repeat(8_000))),
         ),
     ]
 }

@@ -59,7 +59,7 @@ fn read_attribute<'a>(reader: &mut Reader<'a>) -> Step<Attribute<'a>> {
             b'&' => {
                 reader.reference()?;
             }
-            _ => reader.allowed()?,
+            _ => reader.character()?,
         }
     }
     let value = reader.since(start);

@@ -37,6 +37,10 @@ impl<'a> Leaf<'a> {
         room.value()
     }
 
+    pub fn is_empty(&self) -> bool {
+        self.word(&mut Short::new()).is_empty()
+    }
+
     /// Whether the value is a word without white space.
     #[inline(always)]
     pub fn is(&self, word: &[u8]) -> bool {

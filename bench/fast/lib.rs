@@ -1,10 +1,12 @@
 //! The conversion as fast as plain Rust has it: a second measure beside the independent converter, which is written to be read. One pass over the message, no
-//! heap; every value stays where it stands in the message until an answer needs it, but the long texts, which are collapsed as they pass. It is built twice: text
-//! by words of eight bytes and blocks of sixteen, and, with `by_bytes`, byte by byte, as a good converter is that does not go by blocks.
+//! heap; every value stays where it stands in the message until an answer needs it, but the long texts, which are collapsed as they pass, and read again only where
+//! so many of their characters have several bytes that they did not fit. It is built twice: text by words of eight bytes and blocks of sixteen, and, with `by_bytes`,
+//! byte by byte, as a good converter is that does not go by blocks.
 
 mod alert;
 mod attributes;
 mod block;
+mod character;
 mod clock;
 mod info;
 mod judge;
@@ -23,7 +25,7 @@ use output::Output;
 
 const LONGEST_MESSAGE: usize = 32_768;
 const HEADER: usize = 252;
-const TEXT: usize = 1800;
+const TEXT: usize = 7200;
 const URI: usize = 1024;
 const STATION: usize = 8;
 

@@ -69,12 +69,17 @@ pub fn audio_of(mime_type: &Leaf) -> u8 {
     }
 }
 
-/// Whether a value has 1 to 1,024 bytes.
+/// Whether a value has 1 to 1,024 bytes, all of 32 to 126.
 pub fn is_uri(uri: &Leaf) -> bool {
     if !uri.marked && uri.content.len() <= URI {
-        return !uri.content.trim_ascii().is_empty();
+        return !uri.content.trim_ascii().is_empty() && is_printed(uri.content);
     }
     let mut words = Words::<1056>::new();
     read_words(uri.content, &mut words);
-    (1..=URI).contains(&words.value().len())
+    (1..=URI).contains(&words.value().len()) && is_printed(words.value())
+}
+
+/// Whether no byte is above 126; below 32 there is only white space in a message.
+fn is_printed(bytes: &[u8]) -> bool {
+    !bytes.iter().fold(false, |above, b| above | (*b > 126))
 }

@@ -1,5 +1,6 @@
 //! The subset of XML, read forward: white space, comments, text. What is wrong anywhere makes the message broken.
 
+use super::character::{is_first, is_utf8, wide};
 use super::reference::reference;
 use super::word::{before, is_allowed, is_text, is_white, stops, word, Low, WIDTH};
 use super::words::Words;
@@ -79,7 +80,7 @@ impl<'a> Reader<'a> {
         true
     }
 
-    /// The declaration, if there is one. `<?xml` without white space after it is left where it stands, and is refused there.
+    /// The declaration, if there is one; any characters may stand in it. `<?xml` without white space after it is left where it stands, and is refused there.
     pub fn declaration(&mut self) -> Step<()> {
         let Some(inside) = self.rest.strip_prefix(b"<?xml") else {
             return Ok(());
@@ -88,6 +89,9 @@ impl<'a> Reader<'a> {
             return Ok(());
         }
         let end = inside.windows(2).position(|two| two == b"?>").ok_or(Broken)?;
+        if !is_utf8(&inside[..end]) {
+            return Err(Broken);
+        }
         self.rest = &inside[end + 2..];
         Ok(())
     }
@@ -107,32 +111,44 @@ impl<'a> Reader<'a> {
         self.marked = true;
         self.rest = self.rest.strip_prefix(b"<!--").ok_or(Broken)?;
         loop {
-            let quiet = |low: Low| low.within(32, 126) & low.is_not(b'-') | low.is(b'\n');
+            let quiet = |low: Low| low.from(32) & low.is_not(b'-') | low.is(b'\n');
             self.pass_while(quiet, |byte| is_allowed(byte) && byte != b'-');
             if self.rest.starts_with(b"--") {
                 break;
             }
-            self.allowed()?;
+            self.character()?;
         }
         self.pass(2);
         self.expect(b'>')
     }
 
-    /// Passes a byte that may stand in a message.
-    #[inline(always)]
-    pub fn allowed(&mut self) -> Step<()> {
-        if !is_allowed(self.peek()) {
-            return Err(Broken);
+    /// Passes a character that may stand in a message; of those of several bytes as many as stand here.
+    #[inline(never)]
+    pub fn character(&mut self) -> Step<()> {
+        if is_allowed(self.peek()) {
+            self.pass(1);
+            return Ok(());
         }
-        self.pass(1);
+        self.wide()?;
+        while self.peek() > 127 {
+            self.wide()?;
+        }
         Ok(())
     }
 
-    pub fn reference(&mut self) -> Step<u8> {
+    /// Passes a character of several bytes, and hands it back.
+    #[inline(always)]
+    fn wide(&mut self) -> Step<&'a [u8]> {
+        let start = self.rest;
+        self.pass(wide(start).ok_or(Broken)?);
+        Ok(self.since(start))
+    }
+
+    pub fn reference(&mut self) -> Step<char> {
         self.marked = true;
-        let (byte, length) = reference(self.rest).ok_or(Broken)?;
+        let (character, length) = reference(self.rest).ok_or(Broken)?;
         self.pass(length);
-        Ok(byte)
+        Ok(character)
     }
 
     /// A bracket in text, which must not begin `]]>`.
@@ -156,7 +172,7 @@ impl<'a> Reader<'a> {
                     self.reference()?;
                 }
                 b']' => self.bracket()?,
-                _ => self.allowed()?,
+                _ => self.character()?,
             }
         }
     }
@@ -168,7 +184,7 @@ impl<'a> Reader<'a> {
             if words.ends_in_space() {
                 self.white_space();
             }
-            self.rest = words.put_text(self.rest);
+            self.rest = words.put_text::<false>(self.rest);
             if words.is_full() || !self.word_goes_on(words)? {
                 break;
             }
@@ -177,7 +193,7 @@ impl<'a> Reader<'a> {
         Ok(())
     }
 
-    /// Passes what is more than a byte to be put; says whether text goes on behind it.
+    /// Passes what is more than a byte to be put as it stands; says whether text goes on behind it.
     #[inline(always)]
     fn word_goes_on<const N: usize>(&mut self, words: &mut Words<N>) -> Step<bool> {
         match self.peek() {
@@ -186,12 +202,25 @@ impl<'a> Reader<'a> {
             b'<' => return Ok(false),
             b']' => {
                 self.bracket()?;
-                words.put(b']');
+                words.put(']');
             }
-            b if is_white(b) => words.put(b' '),
+            b if is_white(b) => words.put(' '),
+            128.. => self.wide_words(words)?,
             _ if self.rest.is_empty() => return Ok(false),
             _ => return Err(Broken),
         }
         Ok(true)
+    }
+
+    /// Puts text from a character of several bytes on.
+    #[inline(never)]
+    fn wide_words<const N: usize>(&mut self, words: &mut Words<N>) -> Step<()> {
+        while self.peek() > 127 && !words.is_full() {
+            words.put_wide(self.wide()?);
+            if is_first(self.peek()) {
+                self.rest = words.put_text::<true>(self.rest);
+            }
+        }
+        Ok(())
     }
 }

@@ -69,7 +69,7 @@ impl Low {
     /// Text goes on, but that a tab or a carriage return asks for a second look.
     #[inline(always)]
     pub fn text(self) -> u64 {
-        let printed = self.from(32) & !self.from(127) | self.is(b'\n');
+        let printed = self.from(32) | self.is(b'\n');
         printed & self.is_not(b'<') & self.is_not(b'&') & self.is_not(b']')
     }
 
@@ -80,7 +80,7 @@ impl Low {
     }
 }
 
-/// Where a scan stops in a word: at the bytes that are not in a set, and at those above 127, which no scan passes.
+/// Where a scan stops in a word: at the bytes that are not in a set, and at those above 127, which begin characters of several bytes where they may stand at all.
 #[inline(always)]
 pub fn stops(word: u64, set: u64) -> u64 {
     (!set | word) & HIGH
@@ -119,9 +119,9 @@ pub fn is_white(b: u8) -> bool {
     matches!(b, b' ' | b'\n' | b'\r' | b'\t')
 }
 
-/// What may stand in a message outside its declaration.
+/// The characters of one byte that may stand in a message outside its declaration.
 pub fn is_allowed(b: u8) -> bool {
-    matches!(b, b' '..=b'~' | b'\n' | b'\r' | b'\t')
+    matches!(b, b' '..=0x7f | b'\n' | b'\r' | b'\t')
 }
 
 /// Text goes on.
