@@ -408,6 +408,17 @@ fn blocks(s: &[u8], at: usize) -> usize
     }
 }
 
+// How many bytes from `at` on are of a run of text: first by blocks, and then one by one.
+fn stretch(s: &[u8], at: usize) -> usize
+    ensures { λ r. ⌜ Runs (now (s .entry)) at r ⌝ }
+{
+    let mut n = blocks(s, at);
+    while is_run(octets::byte(s, at + n)) {
+        n += 1;
+    }
+    n
+}
+
 // White space before a tag is told by itself: nothing else stands between most elements.
 fn run(s: &[u8], at: usize) -> usize
     ensures { λ r. ⌜ r ≡ through (inText (now (s .entry))) (now (s .entry)) at ⌝ }
@@ -416,13 +427,9 @@ fn run(s: &[u8], at: usize) -> usize
     if octets::byte(s, j) == 60 {
         return j;
     }
-    let n = blocks(s, j);
-    let mut i = j + n;
+    let mut i = j;
     loop {
-        if is_run(octets::byte(s, i)) {
-            i += 1;
-            continue;
-        }
+        i += stretch(s, i);
         let n = in_text(s, i);
         if n == 0 {
             return i;

@@ -2,7 +2,7 @@
 --     next-goes                            what stands at a place goes forward and stays inside
 --     along                                a fact of every place, from what stands there and the fact of where that ends
 --     fold-char, fold-over, fold-last      a fold, by what stands at its place
---     byte-next, char-next, tag-next      what stands at a place, by its byte
+--     byte-next, char-next, char-met, tag-next, no-note      what stands at a place, by its byte
 use Prim.Native.Nat.{ℕ, zero, suc, _+_, _<_, _≤_}
 use mathlib.Core.Path.{_≡_, refl, sym, ap, ap₂, _∙_}
 use mathlib.Core.Bool.{Bool, true, false}
@@ -11,10 +11,12 @@ use native.Mathlib.Omega.{arith}
 use lib.ListN.{length, List·getD-eq-default}
 use lib.Dec.{eqb}
 use borrow.Author.Tests.{eqb-true, ne-eqb}
-use Rattle.octets.specs.Bytes.{pick, every, between, oneOf, byteAt}
+use Rattle.octets.specs.Bytes.{pick, every, between, oneOf, byteAt, stands}
+use Rattle.octets.specs.Text.{bytes}
 use Rattle.characters.specs.Utf8.{isLegal, width, scalarAt, isSingle}
 use Rattle.characters.proofs.Places.{stands-for, single-is, single-width}
 use Rattle.characters.proofs.Chars.{scalar-past}
+use Rattle.characters.proofs.Forms.{byte-in}
 use Rattle.pieces.specs.Classes.{isPlain}
 use Rattle.pieces.specs.Pieces.{noteAt, charAt}
 use Rattle.pieces.specs.declared.End.{End}
@@ -90,10 +92,26 @@ module _ (s : List ℕ) (i : ℕ) where
       let w : i + width (scalarAt s i) ≡ i + 1 = ap (λ (n : ℕ). i + n) (sym (plain-steps s i p .is) ∙ single-width s i b) in
       char-next (byteAt s i) (i + 1) (plain-char p ∙ ap₂ (λ (c j : ℕ). Scalar c j) e w)
 
+  pub char-met : eqb (byteAt s i) 60 ≡ false → nextAt s i ≡ met (charAt s i)
+  unfolding nextAt
+  char-met h = rw h
+
   -- a tag is a comment or the end
   pub tag-next : eqb (byteAt s i) 60 ≡ true → (e : End) → noteAt s i ≡ e → nextAt s i ≡ passed e
   unfolding nextAt
   tag-next h e q = rw (h, q)
+
+  -- which its second byte may tell
+  pub no-note : (byteAt s (i + 1) ≡ 33 → ⊥) → noteAt s i ≡ No
+  unfolding noteAt bytes
+  no-note n = go (stands t s i) refl
+    where
+      t : List ℕ
+      t = bytes "<!--"
+
+      go : (b : Bool) → stands t s i ≡ b → noteAt s i ≡ No
+      go true e = absurd (n (byte-in t s i 1 e (omega arith)))
+      go false e = rw e
 
 -- ---- all places
 

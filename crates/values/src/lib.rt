@@ -10,7 +10,7 @@ ghost use lib.Seq.{sets};
 ghost use lib.Dec.{ltb};
 ghost use Rattle.octets.specs.Bytes.{same};
 ghost use Rattle.characters.specs.Utf8.{utf8};
-ghost use Rattle.values.specs.Chars.{nextAt};
+ghost use Rattle.values.specs.Chars.{met, nextAt};
 ghost use Rattle.values.specs.Value.{valueAt, small};
 ghost use Rattle.values.specs.WorkingSteps.{restAt, leadAt, gapAt, stepAt, form, low, printableSize, sixDigits, spelledOf};
 
@@ -36,15 +36,29 @@ pub struct Spelled {
 
 // ---- reading forward
 
+// A character as what stands next; where there is none, the end.
+fn next_of(r: Ref) -> Next
+    ensures { λ n. ⌜ n ≡ met r ⌝ }
+{
+    match r {
+        Ref::Scalar(c, j) => Next::Char(c, j),
+        Ref::Wrong => Next::Last,
+    }
+}
+
+// A `<` ends the text unless it begins a comment, which its second byte tells at once.
 fn look(s: &[u8], at: usize) -> Next
     ensures { λ r. ⌜ r ≡ nextAt (now (s .entry)) at ⌝ }
 {
-    if octets::byte(s, at) != 60 {
-        let r = pieces::character(s, at);
-        return match r {
-            Ref::Scalar(c, j) => Next::Char(c, j),
-            Ref::Wrong => Next::Last,
-        };
+    let b = octets::byte(s, at);
+    if b == 38 {
+        return next_of(pieces::reference(s, at));
+    }
+    if b != 60 {
+        return next_of(pieces::character(s, at));
+    }
+    if octets::byte(s, at + 1) != 33 {
+        return Next::Last;
     }
     let n = pieces::note(s, at);
     match n {
@@ -187,13 +201,26 @@ fn form_of(any: bool, c: u32) -> u32
     if c <= 90 { c + 32 } else { c }
 }
 
+// Whether the value is w, or is it in small letters. Most characters are marks, which stand for themselves.
 fn matches(s: &[u8], at: usize, w: &[u8], any: bool) -> bool
     ensures { λ r. ⌜ r ≡ same (map (form any) (valueAt (now (s .entry)) at)) (now (w .entry)) ⌝ }
 {
     let mut i = lead(s, at);
     let mut k: usize = 0;
     loop {
-        let g = step(s, i);
+        let b = octets::byte(s, i);
+        if calm::is_mark(b) {
+            if k == w.len() {
+                return false;
+            }
+            if form_of(any, b as u32) != (w[k] as u32) {
+                return false;
+            }
+            i += 1;
+            k += 1;
+            continue;
+        }
+        let g = slow(s, i);
         let Got::Is(c, j) = g else {
             return k == w.len();
         };
@@ -233,7 +260,7 @@ pub fn low_of(c: u32) -> u8
     if c < 128 { b } else { 0 }
 }
 
-// Puts at most g characters of a value, from a place in it, into `out` at `to`, each as one byte, and says how many.
+// Puts at most g characters of a value, from a place in it, into `out` at `to`, each as one byte, and says how many. Marks are put as they stand.
 fn copy_rest(s: &[u8], at: usize, g: usize, out: &mut [u8], to: usize) -> usize
     requires { ⌜ to + length (take g (restAt (now s) at)) ≤ length (now out) ⌝ }
     ensures { λ r. ⌜ r ≡ length (take g (restAt (now (s .entry)) at)) ⌝ }
@@ -242,7 +269,14 @@ fn copy_rest(s: &[u8], at: usize, g: usize, out: &mut [u8], to: usize) -> usize
     let mut i = at;
     let mut k: usize = 0;
     while k < g {
-        let x = step(s, i);
+        let b = octets::byte(s, i);
+        if calm::is_mark(b) {
+            out[to + k] = b;
+            i += 1;
+            k += 1;
+            continue;
+        }
+        let x = slow(s, i);
         let Got::Is(c, j) = x else {
             return k;
         };
