@@ -15,10 +15,10 @@ use lib.ListN.{length, take, drop, length-map}
 use borrow.Author.Tests.{le-leb, lt-leb, leb-true}
 use Rattle.octets.specs.Bytes.{pick}
 use Rattle.octets.proofs.Tests.{picked, passed-over}
-use Rattle.records.specs.Record.{aired}
+use Rattle.records.specs.Record.{carried, aired}
 use Rattle.ledger.specs.declared.Row.{Row}
 use Rattle.ledger.specs.Sorted.{In, Sorted, insert, insertAll}
-use Rattle.ledger.specs.WorkingBoard.{carried, live, ordered, due, indexOf, rowOf, rowsOf}
+use Rattle.ledger.specs.WorkingBoard.{live, ordered, due, indexOf, rowOf, rowsOf}
 use Rattle.ledger.specs.WorkingScan.{after, bestOf}
 use Rattle.ledger.proofs.Sorts.{insert-new, insert-length, insertAll-grows}
 use Rattle.ledger.proofs.Dues.{in-due}
@@ -30,7 +30,7 @@ use Rattle.board.specs.Rules.{boardOf}
 use Rattle.board.specs.WorkingRules.{boardOk, encode, added}
 use Rattle.board.specs.WorkingCalls.{offerRefused, offerTo, offerOf, handRefused, handTo, handOf, listRefused, listTo, listOf}
 use Rattle.board.specs.Calls.{Listing}
-use Rattle.board.proofs.Boards.{board-recs, board-within, kept, encoded}
+use Rattle.board.proofs.Boards.{board-recs, board-within, kept-rules, encoded}
 use Rattle.board.proofs.Finds.{Found, none, found, find, start-due, due-most}
 
 -- ---- an offer
@@ -49,7 +49,7 @@ module _ (s : List ℕ) (rs : List (List ℕ)) (n : ℕ) (is : n ≡ length (boa
   grown k e = ap (λ (m : ℕ). k + m) (sym is) ∙ e ∙ ap (λ (b : List (List ℕ)). length (insertAll rs b)) (board-recs s n is)
 
   pub filled-sorted : Sorted (recs n s)
-  filled-sorted = subst Sorted (sym (board-recs s n is)) (kept s ok .order)
+  filled-sorted = subst Sorted (sym (board-recs s n is)) (kept-rules s ok .order)
 
   pub offer-full : (k : ℕ) → k + n ≡ length (insertAll rs (recs n s)) → length s < (n + k) * 384 → offerOf s rs ≡ offerRefused 15 s
   offer-full k e h = offer-to ∙ passed-over (leb (length (insertAll rs (boardOf s)) * 384) (length s)) _ (offerRefused 15 s) (lt-leb (length (insertAll rs (boardOf s)) * 384) (length s) (omega (arith, grown k e)))
@@ -83,7 +83,7 @@ module _ (s : List ℕ) (n : ℕ) (is : n ≡ length (boardOf s)) (ok : boardOk 
   filled-within = omega (arith, board-within s)
 
   pub filled-most : n ≤ 170
-  filled-most = omega (arith, board-within s, kept s ok .high)
+  filled-most = omega (arith, board-within s, kept-rules s ok .high)
 
   pub hand-to : (d : List (List ℕ)) → due (boardOf s) ≡ d → handOf s ≡ handTo s (boardOf s) d
   unfolding handOf

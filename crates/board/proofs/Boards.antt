@@ -1,5 +1,5 @@
 -- The rules of a board, and a board as its filled records.
---     kept, encode-ok                 what the rules say, and back
+--     kept-rules, encode-ok           what the rules say, and back
 --     board-bytes, board-encode       a board is its filled records and zeros
 --     filled-on, records-on ..        the rules judged record by record
 use Prim.Native.Nat.{ℕ, zero, suc, _+_, _*_, _-_, _/_, _%_, _≤_, _<_}
@@ -133,9 +133,9 @@ pub record Kept (s : List ℕ) : Type 0 where
   pub each : Records (boardOf s)
   pub rest : zeros (drop (length (boardOf s) * 384) s) ≡ true
 
-pub kept : (s : List ℕ) → boardOk s ≡ true → Kept s
+pub kept-rules : (s : List ℕ) → boardOk s ≡ true → Kept s
 unfolding boardOk
-kept s h =
+kept-rules s h =
     let w = each-of (boardTests s) h in
     record {
       low = between-low 384 65280 (length s) (w .0);
@@ -188,7 +188,7 @@ pub board-bytes : (s : List ℕ) → boardOk s ≡ true → s ≡ encode (length
 unfolding encode
 board-bytes s h =
     sym (take-append-drop (length (boardOf s) * 384) s)
-    ∙ ap₂ _++_ (sym (flat-all (length (boardOf s)) s) ∙ ap flat (board-recs s (length (boardOf s)) refl)) (zeros-are (drop (length (boardOf s) * 384) s) (length s - length (boardOf s) * 384) (length-drop (length (boardOf s) * 384) s) (kept s h .rest))
+    ∙ ap₂ _++_ (sym (flat-all (length (boardOf s)) s) ∙ ap flat (board-recs s (length (boardOf s)) refl)) (zeros-are (drop (length (boardOf s) * 384) s) (length s - length (boardOf s) * 384) (length-drop (length (boardOf s) * 384) s) (kept-rules s h .rest))
 
 pub encode-ok : (n : ℕ) (b : List (List ℕ)) → 384 ≤ n → n ≤ 65280 → n % 384 ≡ 0 → Sorted b → Records b → length b * 384 ≤ n → boardOk (encode n b) ≡ true
 unfolding boardOk
@@ -223,4 +223,4 @@ encoded s c h le = ap (λ (z : List ℕ). flat c ++ z) (zeros-are (drop (length 
         let more : ℕ = (length c - length (boardOf s)) * 384 in
         ap (λ (k : ℕ). zeros (drop k s)) (let q : length c * 384 ≡ from + more = omega arith in q)
         ∙ ap zeros (sym (drop-drop more from s))
-        ∙ every-right _ (take more (drop from s)) (drop more (drop from s)) (ap zeros (take-append-drop more (drop from s)) ∙ kept s h .rest)
+        ∙ every-right _ (take more (drop from s)) (drop more (drop from s)) (ap zeros (take-append-drop more (drop from s)) ∙ kept-rules s h .rest)

@@ -1,5 +1,5 @@
 -- The due headers as a scan of the bytes finds them.
---     header-part, key-part      the fields of a record as slices of the board
+--     key-part                   the key of a record as a slice of the board
 --     mark-at, mark-next         the marks of the live records
 --     go-same .. go-by           the record that carries the first header, one record further
 --     start-due                  the first header after none is the first due header
@@ -22,15 +22,13 @@ use Rattle.octets.specs.declared.Order.{Order}
 use Rattle.octets.specs.declared.Order.the-variants.{Less, Same, More}
 use Rattle.octets.specs.Bytes.{pick, same}
 use Rattle.octets.specs.Order.{cmp, choose}
-use Rattle.octets.proofs.Parts.{length-part}
 use Rattle.octets.proofs.Tests.{every-of, one-fails}
 use Rattle.octets.proofs.Everys.{last-decides}
-use Rattle.records.specs.Record.{kind, key, header, withdrawal, aired, pad}
-use Rattle.records.proofs.Records.{header-long}
-use Rattle.records.proofs.ZeroFill.{pad-whole}
+use Rattle.records.specs.Record.{kind, key, withdrawal, aired, carried}
+use Rattle.records.proofs.Records.{carried-long}
 use Rattle.ledger.specs.declared.Row.{Row}
 use Rattle.ledger.specs.Sorted.{In, has}
-use Rattle.ledger.specs.WorkingBoard.{carried, unwithdrawn, live, ordered, due, carries, indexOf, countOf, rowOf, rowsOf}
+use Rattle.ledger.specs.WorkingBoard.{unwithdrawn, live, ordered, due, carries, indexOf, countOf, rowOf, rowsOf}
 use Rattle.ledger.specs.WorkingScan.{after, bestOf}
 use Rattle.ledger.proofs.Dues.{in-due}
 use Rattle.ledger.proofs.Scans.{Best, nothing, first, best, best-same, best-first, best-less, best-equal, best-more, after-start, after-next, row-index, row-count, ordered-length}
@@ -52,21 +50,6 @@ rec-part s i o w h =
 pub key-part : (s : List ℕ) (i : ℕ) → take (i * 384 + 133 - (i * 384 + 1)) (drop (i * 384 + 1) s) ≡ key (rec i s)
 unfolding key
 key-part s i = rec-part s i 1 132 (omega arith)
-
-pub header-part : (s : List ℕ) (i : ℕ) → take (i * 384 + 376 - (i * 384 + 133)) (drop (i * 384 + 133) s) ≡ carried (rec i s)
-unfolding carried header
-header-part s i = rec-part s i 133 243 (omega arith)
-
-pub carried-long : (r : List ℕ) → length r ≡ 384 → length (carried r) ≡ 243
-unfolding carried
-carried-long r l = header-long r l
-
-pub header-whole : (s : List ℕ) (i : ℕ) → (i + 1) * 384 ≤ length s → length (carried (rec i s)) ≡ 243
-header-whole s i h = carried-long (rec i s) (length-part s (i * 384) 384 (omega arith))
-
--- the aired record of a whole field
-pub aired-whole : (h x : List ℕ) → length h ≡ 243 → x ≡ aired (pad 243 h) → x ≡ aired h
-aired-whole h x l e = e ∙ ap aired (pad-whole 243 h l)
 
 -- ---- live, test by test
 
@@ -240,16 +223,16 @@ module _ (n : ℕ) (s : List ℕ) (start out : List Row) (k j : ℕ) (w : Standi
       go (found h hs f lt c is) = let q = ap length (sym f ∙ w .left) in omega (arith, simp length-drop at q)
 
   -- one row more
-  pub stand-next : (count : ℕ) (h : List ℕ) (j′ : ℕ) → j < n → count ≡ countOf (live (recs n s)) (carried (rec j s)) (recs n s)
-      → h ≡ carried (rec j s) → j′ ≡ bestOf n (after (recs n s) h) (recs n s) → Standing n s start (set out k (record { index = j; count = count })) (k + 1) j′
-  stand-next count g j′ l ec eg ej = go found-now
+  pub stand-next : (count j′ : ℕ) → j < n → count ≡ countOf (live (recs n s)) (carried (rec j s)) (recs n s)
+      → j′ ≡ bestOf n (after (recs n s) (carried (rec j s))) (recs n s) → Standing n s start (set out k (record { index = j; count = count })) (k + 1) j′
+  stand-next count j′ l ec ej = go found-now
     where
       go : Found n s (w .behind) j → Standing n s start (set out k (record { index = j; count = count })) (k + 1) j′
       go (none f e) = absurd (omega arith)
       go (found h hs f lt c is) = record {
-        behind = g;
+        behind = carried (rec j s);
         scanned = ej;
-        left = ap (λ (x : List ℕ). ordered (after (recs n s) x) (recs n s)) (eg ∙ c) ∙ after-next (recs n s) (w .behind) h hs f ∙ sym tail;
+        left = ap (λ (x : List ℕ). ordered (after (recs n s) x) (recs n s)) c ∙ after-next (recs n s) (w .behind) h hs f ∙ sym tail;
         fits = rw add-one (row-within l);
         same-long = length-set out k _ ∙ w .same-long;
         rows =

@@ -16,10 +16,10 @@ use lib.ListN.{length, getD}
 use borrow.Author.Tests.{le-leb, lt-leb}
 use Rattle.octets.specs.Bytes.{pick}
 use Rattle.octets.proofs.Tests.{picked, passed-over}
-use Rattle.records.specs.Record.{kind, aired, recordOk}
+use Rattle.records.specs.Record.{kind, carried, aired, recordOk}
 use Rattle.records.proofs.Records.{airs-ok, kind-aired}
 use Rattle.ledger.specs.Sorted.{In, insert, insertAll}
-use Rattle.ledger.specs.WorkingBoard.{carried, live, due, Due, indexOf, After, handOutOf, handOut}
+use Rattle.ledger.specs.WorkingBoard.{live, due, Due, indexOf, After, handOutOf, handOut}
 use Rattle.ledger.proofs.Sorts.{in-insert, in-insertAll, insert-sorted, insertAll-sorted, insertAll-grows, insert-behind}
 use Rattle.ledger.proofs.Dues.{in-due, live-is, in-headers, later-kind}
 use Rattle.ledger.proofs.Scans.{carries-is, index-get}
@@ -28,20 +28,20 @@ use Rattle.board.specs.Rules.{boardOf}
 use Rattle.board.specs.WorkingCalls.{Offering, offerRefused, offerTo, offerOf, handRefused, handTo, handOf}
 use Rattle.board.specs.Calls.{Handing}
 use Rattle.board.specs.WorkingRuns.{givenBy}
-use Rattle.board.proofs.Boards.{kept, board-encode, encode-long, encode-ok}
+use Rattle.board.proofs.Boards.{kept-rules, board-encode, encode-long, encode-ok}
 use Rattle.board.proofs.Answers.{offer-to, hand-to}
 
 -- ---- other records in the place of a board's own
 
 module _ (s : List ℕ) (ok : boardOk s ≡ true) (c : List (List ℕ)) (w : Records c) (room : length c ≤ length s / 384) where
   fits : length c * 384 ≤ length s
-  fits = omega (arith, kept s ok .whole)
+  fits = omega (arith, kept-rules s ok .whole)
 
   pub put-long : length (encode (length s) c) ≡ length s
   put-long = encode-long (length s) c w fits
 
   pub put-board : boardOf (encode (length s) c) ≡ c
-  put-board = board-encode (length s) c w fits (kept s ok .whole)
+  put-board = board-encode (length s) c w fits (kept-rules s ok .whole)
 
 -- ---- an offer
 
@@ -63,14 +63,14 @@ offer-is s rs ok = go (decLt (length s / 384) (length (insertAll rs (boardOf s))
 
 module _ (s : List ℕ) (rs : List (List ℕ)) (ok : boardOk s ≡ true) (w : Records rs) where
   with-them : Records (insertAll rs (boardOf s))
-  with-them r m = ⊎-elim (λ k. w r k) (λ k. kept s ok .each r k) (in-insertAll r rs (boardOf s) .0 m)
+  with-them r m = ⊎-elim (λ k. w r k) (λ k. kept-rules s ok .each r k) (in-insertAll r rs (boardOf s) .0 m)
 
   pub offer-keeps : boardOk (offerOf s rs .bytes) ≡ true
   offer-keeps = go (offer-is s rs ok)
     where
       go : Offer s rs → boardOk (offerOf s rs .bytes) ≡ true
       go (full h e) = ap (λ (x : Offering). boardOk (x .bytes)) e ∙ ok
-      go (taken h e) = ap (λ (x : Offering). boardOk (x .bytes)) e ∙ encode-ok (length s) (insertAll rs (boardOf s)) (kept s ok .low) (kept s ok .high) (kept s ok .whole) (insertAll-sorted rs (boardOf s) (kept s ok .order)) with-them (fits s ok (insertAll rs (boardOf s)) with-them h)
+      go (taken h e) = ap (λ (x : Offering). boardOk (x .bytes)) e ∙ encode-ok (length s) (insertAll rs (boardOf s)) (kept-rules s ok .low) (kept-rules s ok .high) (kept-rules s ok .whole) (insertAll-sorted rs (boardOf s) (kept-rules s ok .order)) with-them (fits s ok (insertAll rs (boardOf s)) with-them h)
 
   pub offer-long : length (offerOf s rs .bytes) ≡ length s
   offer-long = go (offer-is s rs ok)
@@ -133,14 +133,13 @@ hand-is s ok = go (due (boardOf s)) refl
 module _ (s : List ℕ) (ok : boardOk s ≡ true) where
   -- a due header's aired record keeps its rules
   airs : (h : List ℕ) → Due (boardOf s) h → recordOk (aired h) ≡ true
-  unfolding carried
-  airs h d = subst (λ (x : List ℕ). recordOk (aired x) ≡ true) (d .carries) (airs-ok (d .by) (kept s ok .each (d .by) (d .held)) (d .is-notice))
+  airs h d = subst (λ (x : List ℕ). recordOk (aired x) ≡ true) (d .carries) (airs-ok (d .by) (kept-rules s ok .each (d .by) (d .held)) (d .is-notice))
 
   is-due : (h : List ℕ) (hs : List (List ℕ)) → due (boardOf s) ≡ h ∷ hs → Due (boardOf s) h
   is-due h hs f = in-due (boardOf s) h .0 (subst (In h) (sym f) (inl refl))
 
   with-it : (h : List ℕ) (hs : List (List ℕ)) → due (boardOf s) ≡ h ∷ hs → Records (insert (aired h) (boardOf s))
-  with-it h hs f r m = ⊎-elim (λ p. subst (λ (x : List ℕ). recordOk x ≡ true) (sym p) (airs h (is-due h hs f))) (λ k. kept s ok .each r k) (in-insert r (aired h) (boardOf s) .0 m)
+  with-it h hs f r m = ⊎-elim (λ p. subst (λ (x : List ℕ). recordOk x ≡ true) (sym p) (airs h (is-due h hs f))) (λ k. kept-rules s ok .each r k) (in-insert r (aired h) (boardOf s) .0 m)
 
   pub hand-out-keeps : boardOk (handOf s .bytes) ≡ true
   hand-out-keeps = go (hand-is s ok)
@@ -148,7 +147,7 @@ module _ (s : List ℕ) (ok : boardOk s ≡ true) where
       go : Hand s → boardOk (handOf s .bytes) ≡ true
       go (nothing f e) = ap (λ (x : Handing). boardOk (x .bytes)) e ∙ ok
       go (full h hs f l e) = ap (λ (x : Handing). boardOk (x .bytes)) e ∙ ok
-      go (given h hs f l e) = ap (λ (x : Handing). boardOk (x .bytes)) e ∙ encode-ok (length s) (insert (aired h) (boardOf s)) (kept s ok .low) (kept s ok .high) (kept s ok .whole) (insert-sorted (aired h) (boardOf s) (kept s ok .order)) (with-it h hs f) (fits s ok (insert (aired h) (boardOf s)) (with-it h hs f) l)
+      go (given h hs f l e) = ap (λ (x : Handing). boardOk (x .bytes)) e ∙ encode-ok (length s) (insert (aired h) (boardOf s)) (kept-rules s ok .low) (kept-rules s ok .high) (kept-rules s ok .whole) (insert-sorted (aired h) (boardOf s) (kept-rules s ok .order)) (with-it h hs f) (fits s ok (insert (aired h) (boardOf s)) (with-it h hs f) l)
 
   pub hand-long : length (handOf s .bytes) ≡ length s
   hand-long = go (hand-is s ok)
@@ -209,5 +208,5 @@ module _ (s : List ℕ) (ok : boardOk s ≡ true) where
           let q : kind (getD b i []) < kind (aired h) = omega (arith, w .1, kind-aired h) in
           ap (λ (x : Handing). getD (boardOf (x .bytes)) (x .answer .index) []) e
           ∙ ap (λ (c : List (List ℕ)). getD c i []) (put-board s ok (insert (aired h) b) (with-it h hs f) l)
-          ∙ insert-behind (aired h) b i (kept s ok .order) (w .0) (later-kind (aired h) (getD b i []) q)
+          ∙ insert-behind (aired h) b i (kept-rules s ok .order) (w .0) (later-kind (aired h) (getD b i []) q)
           ∙ sym (ap (λ (x : Handing). getD b (x .answer .index) []) e)

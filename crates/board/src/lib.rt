@@ -10,9 +10,9 @@ ghost use lib.Dec.{leb};
 ghost use lib.ListN.{length, take};
 ghost use lib.Seq.{sets};
 ghost use Rattle.octets.specs.Bytes.{pick, every};
-ghost use Rattle.records.specs.Record.{recordOk, aired};
+ghost use Rattle.records.specs.Record.{recordOk, carried, aired};
 ghost use Rattle.ledger.specs.Sorted.{ascending};
-ghost use Rattle.ledger.specs.WorkingBoard.{carried, live, carries, countOf, rowsOf};
+ghost use Rattle.ledger.specs.WorkingBoard.{live, carries, countOf, rowsOf};
 ghost use Rattle.ledger.specs.WorkingScan.{after, bestOf};
 ghost use Rattle.slots.specs.WorkingSlots.{rec};
 ghost use Rattle.slots.specs.Slots.{recs};
@@ -164,16 +164,6 @@ pub fn offer_records(s: &mut [u8], batch: &[u8], m: usize) -> Added
 
 // ---- the due headers
 
-// The header of record i.
-fn header_at(s: &[u8], i: usize) -> &[u8]
-    requires { ⌜ (i + 1) * 384 ≤ length (now s) ⌝ }
-    ensures { λ r. ⌜ now r ≡ carried (rec i (now (s .entry))) ⌝ }
-{
-    let from = i * Record::SIZE + Record::HEADER;
-    let to = i * Record::SIZE + Record::ZEROS;
-    &s[from..to]
-}
-
 // Whether record i is a notice that no record withdraws, with a header that no record airs.
 fn is_live(s: &[u8], n: usize, i: usize) -> bool
     requires { ⌜ (n * 384 ≤ length (now s)) × (i < n) ⌝ }
@@ -189,7 +179,7 @@ fn is_live(s: &[u8], n: usize, i: usize) -> bool
     if slots::holds(s, n, &w.bytes) {
         return false;
     }
-    let a = Record::aired(header_at(s, i));
+    let a = slots::aired_at(s, i);
     !slots::holds(s, n, &a.bytes)
 }
 
@@ -215,7 +205,7 @@ fn comes_after(s: &[u8], n: usize, marks: &[bool; MOST], last: &[u8], i: usize) 
     if !marks[i] {
         return false;
     }
-    match octets::compare(last, header_at(s, i)) {
+    match slots::compare_header(last, s, i) {
         Order::Less => true,
         Order::Same => false,
         Order::More => false,
@@ -234,7 +224,7 @@ fn better(s: &[u8], n: usize, marks: &[bool; MOST], last: &[u8], best: usize, i:
     if best == n {
         return i;
     }
-    match octets::compare(header_at(s, i), header_at(s, best)) {
+    match slots::compare_headers(s, i, best) {
         Order::Less => i,
         Order::Same => best,
         Order::More => best,
@@ -255,6 +245,15 @@ fn first_after(s: &[u8], n: usize, marks: &[bool; MOST], last: &[u8]) -> usize
     best
 }
 
+// The same for the first due header after that of record j.
+fn next_after(s: &[u8], n: usize, marks: &[bool; MOST], j: usize) -> usize
+    requires { ⌜ (n * 384 ≤ length (now s)) × (n ≤ 170) × (j < n) × Marks (live (recs n (now s))) (recs n (now s)) (now marks) ⌝ }
+    ensures { λ r. ⌜ r ≡ bestOf n (after (recs n (now (s .entry))) (carried (rec j (now (s .entry))))) (recs n (now (s .entry))) ⌝ }
+{
+    let h = slots::header_at(s, j);
+    first_after(s, n, marks, &h)
+}
+
 // ---- the hand-out
 
 // The index of the smallest notice that makes the first due header due, or n where nothing is due.
@@ -271,7 +270,7 @@ fn air(s: &mut [u8], n: usize, j: usize)
     requires { ⌜ (j < n) × ((n + 1) * 384 ≤ length (now s)) ⌝ }
     ensures { λ _. ⌜ now (s .exit) ≡ added (now (s .entry)) n (aired (carried (rec j (now (s .entry))))) ⌝ }
 {
-    let a = Record::aired(header_at(s, j));
+    let a = slots::aired_at(s, j);
     slots::add(s, n, &a.bytes);
 }
 
@@ -319,7 +318,7 @@ fn alike(s: &[u8], n: usize, marks: &[bool; MOST], j: usize, i: usize) -> usize
     if !marks[i] {
         return 0;
     }
-    if !octets::equal(header_at(s, i), header_at(s, j)) {
+    if !slots::same_header(s, i, j) {
         return 0;
     }
     1
@@ -356,7 +355,7 @@ fn due_rows(s: &[u8], n: usize) -> Rows
         let count = count_alike(s, n, &marks, j);
         rows[k] = Row { index: j, count };
         k += 1;
-        j = first_after(s, n, &marks, header_at(s, j));
+        j = next_after(s, n, &marks, j);
     }
     let answer = Listed {
         number: 0,

@@ -16,10 +16,10 @@ use lib.ListN.{length, take, getD}
 use lib.Seq.{take-nil, take-all}
 use Rattle.octets.specs.Bytes.{pick}
 use Rattle.octets.proofs.Tests.{picked, passed-over}
-use Rattle.records.specs.Record.{header, aired}
+use Rattle.records.specs.Record.{carried, aired}
 use Rattle.ledger.specs.Sorted.{In, insert}
 use Rattle.ledger.specs.WorkingBoard as ledger
-use Rattle.ledger.specs.WorkingBoard.{carried, due, Alert}
+use Rattle.ledger.specs.WorkingBoard.{due, Alert}
 use Rattle.ledger.proofs.Sorts.{insert-length}
 use Rattle.ledger.proofs.Demand3 as lists
 use Rattle.board.specs.Rules.{boardOf}
@@ -65,7 +65,7 @@ due-exactly : (b : List ℕ) → Empty b → (ms : List (List ℕ)) → NoneFull
     In h (dueHeaders (boardOf (afterOffers library ms b))) ↔ CarriedBy ms h
 due-exactly b e ms n h =
     let r = runs ms b (e .keeps) n in
-    let d = bytes.due-exactly b (empty b e) (alertsOf ms) (all-records ms) (r .taken) (all-shaped ms) h in
+    let d = bytes.due-after b (empty b e) (alertsOf ms) (all-records ms) (r .taken) (all-shaped ms) h in
     let c = carried-by ms h in
     let same : due (boardOf (board.offersTo (alertsOf ms) b)) ≡ dueHeaders (boardOf (afterOffers library ms b))
     = ap (λ (x : List ℕ). due (boardOf x)) (sym (r .is)) ∙ found-due (afterOffers library ms b) (offers-keep ms b (e .keeps)) in
@@ -104,7 +104,7 @@ hands (suc n) b ok = go (handed b) (hands n)
     d = dueHeaders (boardOf b)
 
     gave : calls.Handing → List (List ℕ)
-    gave o = pick (eqb (o .answer .number) 0) (header (getD (boardOf b) (o .answer .index) []) ∷ []) []
+    gave o = pick (eqb (o .answer .number) 0) (carried (getD (boardOf b) (o .answer .index) []) ∷ []) []
 
     stays : (k : ℕ) → eqb k 0 ≡ false → working-calls.handOf b ≡ working-calls.handRefused k b →
         headerGiven library b ++ handOuts library n (working-calls.handOf b .bytes) ≡ handOuts library n b
@@ -145,18 +145,17 @@ callsOf [] = []
 callsOf (offers m ∷ cs) = pick (noneApplies (takenRows m)) (ledger.offered (alertOf m) ∷ callsOf cs) (callsOf cs)
 callsOf (handsOut ∷ cs) = ledger.handedOut ∷ callsOf cs
 
-call-records : (cs : List BoardCall) → board.CallRecords (callsOf cs)
+call-records : (cs : List BoardCall) → ledger.Offered board.Ruled (callsOf cs)
 call-records [] = tt
 call-records (handsOut ∷ cs) = call-records cs
 call-records (offers m ∷ cs) = go (noneApplies (takenRows m)) refl (call-records cs)
   where
-    go : (t : Bool) → noneApplies (takenRows m) ≡ t → board.CallRecords (callsOf cs) →
-        board.CallRecords (pick t (ledger.offered (alertOf m) ∷ callsOf cs) (callsOf cs))
+    go : (t : Bool) → noneApplies (takenRows m) ≡ t → ledger.Offered board.Ruled (callsOf cs) →
+        ledger.Offered board.Ruled (pick t (ledger.offered (alertOf m) ∷ callsOf cs) (callsOf cs))
     go true e r = (alert-records m e, r)
     go false e r = r
 
 handed-is : (cs : List BoardCall) (b : List ℕ) → isBoard b ≡ true → handedOut library cs b ≡ board.givenOver (callsOf cs) b
-unfolding carried
 handed-is [] b ok = refl
 handed-is (handsOut ∷ cs) b ok = ap (λ (l : List (List ℕ)). headerGiven library b ++ l) (handed-is cs (working-calls.handOf b .bytes) (hand-out-keeps b ok .0))
 handed-is (offers m ∷ cs) b ok = go (noneApplies (takenRows m)) refl (handed-is cs (messageOffer b m .bytes) (offer-keeps b m ok .0))

@@ -19,7 +19,7 @@ use Rattle.board.specs.Rules.{boardOf}
 use Rattle.board.specs.Calls as calls
 use Rattle.board.specs.WorkingCalls as working-calls
 use Rattle.board.specs.declared.Handed as board
-use Rattle.board.proofs.Boards.{kept}
+use Rattle.board.proofs.Boards.{kept-rules}
 use Rattle.offers.specs.Offer.{MessageOffering}
 use Rattle.offers.specs.WorkingOffer.{messageOffer}
 use Rattle.offers.specs.declared.Offered as offer
@@ -55,7 +55,7 @@ module _ (b m : List ℕ) where
       (λ n f k. sym (add-zero (length (boardOf b))))
       (λ t.
       ap length (t .left .holds)
-      ∙ adds-new (messageRecords m) (boardOf b) (boardOf b) (kept b (sym (board-same b) ∙ t .is-board) .order) (λ y. (λ i. i, λ i. i))
+      ∙ adds-new (messageRecords m) (boardOf b) (boardOf b) (kept-rules b (sym (board-same b) ∙ t .is-board) .order) (λ y. (λ i. i, λ i. i))
       ∙ sym (ap (λ (a : offer.Offered). length (boardOf b) + a .added) (t .answer)))
 
   pub taken-exactly : isBoard b ≡ true → (library .offering b m .answer .number ≡ 15 → ⊥) → (library .offering b m .answer .number ≡ 0) ↔ Takes m

@@ -1,26 +1,22 @@
 -- What is due, as the demands say it of any records, and as the library finds it on records that keep their rules.
---     withdrawal-is, aired-is     a record of kind 2 or 3 that keeps its rules is the one that its maker makes
 --     due-same, rows-same         the library's due headers and rows are those of the demands
 --     due-is, due-sorted          the due headers are those of which the sentence Due holds, strictly ascending
 use Prim.Native.Nat.{ℕ, zero, suc}
 use mathlib.Core.Bool.{Bool, true, false, _&&_, not, and-true, and-false}
 use mathlib.Core.Path.{_≡_, refl, sym, ap, ap₂, _∙_, subst}
 use mathlib.Core.Logic.{inl, ⊎-elim, _↔_}
-use mathlib.Core.List.{List, [], _∷_, _++_, map, append-nil}
-use native.Mathlib.Omega.{arith}
+use mathlib.Core.List.{List, [], _∷_, map}
 use lib.Dec.{eqb}
-use lib.ListN.{length, drop, replicate, drop-of-length-le, replicate-append-replicate}
+use lib.ListN.{length}
 use Rattle.octets.specs.Bytes.{pick, every, holds, same}
-use Rattle.octets.proofs.Tests.{Each, each-of}
-use Rattle.octets.proofs.Parts.{length-part, cut, tail-step}
 use Rattle.octets.proofs.Sames.{same-is, same-refl}
-use Rattle.records.specs.Record.{kind, key, header, rest, zeros, kindTests, recordOk, withdrawal, aired}
-use Rattle.records.proofs.ZeroFill.{zeros-are}
-use Rattle.records.proofs.Records.{record-long, kind-decides, header-long, kind-withdrawal, kind-aired, withdrawal-inj, aired-inj}
+use Rattle.records.specs.Record.{kind, key, carried, recordOk, withdrawal, aired}
+use Rattle.records.proofs.Records.{kind-withdrawal, kind-aired, withdrawal-inj, aired-inj}
+use Rattle.records.proofs.Fields.{withdrawal-is, aired-is}
 use Rattle.ledger.specs.declared.Row.{Row}
 use Rattle.ledger.specs.Sorted.{In, has, Sorted, insertAll}
 use Rattle.ledger.specs.WorkingBoard as ledger
-use Rattle.ledger.specs.WorkingBoard.{carried, unwithdrawn, live, headers, carries, countOf, due, rowsOf}
+use Rattle.ledger.specs.WorkingBoard.{unwithdrawn, live, headers, carries, countOf, due, rowsOf}
 use Rattle.ledger.proofs.Sorts.{has-in, in-insertAll, insertAll-sorted, in-map, every-in}
 use Rattle.told.specs.Values.{passing}
 use Rattle.demands.specs.Board.{some, withdrawn, airedOn, carriesIt, makesDue, dueHeaders, Due, firstIndex, rowOf}
@@ -44,44 +40,6 @@ on-is b k f v = (
 
     tests : (r : List ℕ) → ((eqb (kind r) k && same (f r) v) ≡ true) ↔ ((kind r ≡ k) × (f r ≡ v))
     tests r = and-iff (eqb (kind r) k) (same (f r) v) (kind r ≡ k) (f r ≡ v) (eqb-iff (kind r) k) (same-iff (f r) v)
-
--- ---- a record is its fields
-
-of-fields : (r : List ℕ) → length r ≡ 384 → r ≡ kind r ∷ (key r ++ (header r ++ rest r))
-unfolding key header rest
-of-fields r l =
-    tail-step r 0 (omega arith)
-    ∙ ap (λ (x : List ℕ). kind r ∷ x) (cut r 1 132 ∙ ap (λ (x : List ℕ). key r ++ x) (cut r 133 243 ∙ ap (λ (x : List ℕ). header r ++ x) tail))
-  where
-    tail : drop 376 r ≡ rest r
-    tail = cut r 376 8 ∙ ap (λ (x : List ℕ). rest r ++ x) (drop-of-length-le r {i = 384} (omega arith)) ∙ append-nil (rest r)
-
-module _ (r : List ℕ) (ok : recordOk r ≡ true) where
-  long : length r ≡ 384
-  long = record-long r ok
-
-  kind-holds : (n : ℕ) → kind r ≡ n → Each (kindTests n r)
-  kind-holds n e = each-of (kindTests n r) (sym (kind-decides r n long e) ∙ ok)
-
-  unused : zeros (rest r) ≡ true → rest r ≡ replicate 8 0
-  unfolding rest
-  unused z = zeros-are (rest r) 8 (length-part r 376 8 (omega (arith, long))) z
-
-  pub withdrawal-is : kind r ≡ 2 → r ≡ withdrawal (key r)
-  unfolding withdrawal
-  withdrawal-is e =
-      let t = kind-holds 2 e in
-      of-fields r long
-      ∙ ap₂ (λ (k : ℕ) (x : List ℕ). k ∷ (key r ++ x)) e
-      (ap₂ _++_ (zeros-are (header r) 243 (header-long r long) (t .1 .0)) (unused (t .1 .1 .0)) ∙ replicate-append-replicate 243 8 0)
-
-  pub aired-is : kind r ≡ 3 → r ≡ aired (header r)
-  unfolding aired key
-  aired-is e =
-      let t = kind-holds 3 e in
-      of-fields r long
-      ∙ ap₂ (λ (k : ℕ) (x : List ℕ). k ∷ x) e
-      (ap₂ (λ (x y : List ℕ). x ++ (header r ++ y)) (zeros-are (key r) 132 (length-part r 1 132 (omega (arith, long))) (t .0)) (unused (t .1 .1 .0)))
 
 -- ---- the library's tests are those of the demands
 
@@ -112,35 +70,34 @@ module _ (b : List (List ℕ)) (ok : every recordOk b ≡ true) where
   withdrawn-same n = made withdrawal key 2 kind-withdrawal withdrawal-inj withdrawal-is (key n)
 
   aired-same : (h : List ℕ) → has (aired h) b ≡ airedOn b h
-  aired-same h = made aired header 3 kind-aired aired-inj aired-is h
+  aired-same h = made aired carried 3 kind-aired aired-inj aired-is h
 
   carries-same : (h n : List ℕ) → carries (unwithdrawn b) h n ≡ carriesIt b h n
-  unfolding carries unwithdrawn carried
+  unfolding carries unwithdrawn
   carries-same h n =
-      and-three (eqb (kind n) 1) (not (has (withdrawal (key n)) b)) (same (header n) h)
-      ∙ ap (λ (t : Bool). eqb (kind n) 1 && (not t && same (header n) h)) (withdrawn-same n)
+      and-three (eqb (kind n) 1) (not (has (withdrawal (key n)) b)) (same (carried n) h)
+      ∙ ap (λ (t : Bool). eqb (kind n) 1 && (not t && same (carried n) h)) (withdrawn-same n)
 
   makes-same : (h n : List ℕ) → carries (live b) h n ≡ makesDue b h n
-  unfolding carries live carried
+  unfolding carries live
   makes-same h n =
-      and-under (unwithdrawn b n) (not (has (aired (header n)) b)) (not (airedOn b h)) (same (header n) h)
-      (λ e. ap not (ap (λ (x : List ℕ). has (aired x) b) (same-is (header n) h e) ∙ aired-same h))
+      and-under (unwithdrawn b n) (not (has (aired (carried n)) b)) (not (airedOn b h)) (same (carried n) h)
+      (λ e. ap not (ap (λ (x : List ℕ). has (aired x) b) (same-is (carried n) h e) ∙ aired-same h))
       ∙ ap (λ (t : Bool). t && not (airedOn b h)) (carries-same h n)
 
-  live-same : (n : List ℕ) → live b n ≡ makesDue b (header n) n
-  unfolding carries carried every
-  live-same n = sym (rw (same-refl (header n), and-true)) ∙ makes-same (header n) n
+  live-same : (n : List ℕ) → live b n ≡ makesDue b (carried n) n
+  unfolding carries every
+  live-same n = sym (rw (same-refl (carried n), and-true)) ∙ makes-same (carried n) n
 
-  headers-are : (l : List (List ℕ)) → headers (live b) l ≡ map header (passing (λ n. makesDue b (header n) n) l)
-  unfolding carried
+  headers-are : (l : List (List ℕ)) → headers (live b) l ≡ map carried (passing (λ n. makesDue b (carried n) n) l)
   headers-are [] = refl
-  headers-are (r ∷ l) = ap (λ (t : Bool). pick t (header r ∷ headers (live b) l) (headers (live b) l)) (live-same r) ∙ go (makesDue b (header r) r) (headers-are l)
+  headers-are (r ∷ l) = ap (λ (t : Bool). pick t (carried r ∷ headers (live b) l) (headers (live b) l)) (live-same r) ∙ go (makesDue b (carried r) r) (headers-are l)
     where
       rest : List (List ℕ)
-      rest = passing (λ n. makesDue b (header n) n) l
+      rest = passing (λ n. makesDue b (carried n) n) l
 
-      go : (t : Bool) → headers (live b) l ≡ map header rest → pick t (header r ∷ headers (live b) l) (headers (live b) l) ≡ map header (pick t (r ∷ rest) rest)
-      go true ih = ap (λ (x : List (List ℕ)). header r ∷ x) ih
+      go : (t : Bool) → headers (live b) l ≡ map carried rest → pick t (carried r ∷ headers (live b) l) (headers (live b) l) ≡ map carried (pick t (r ∷ rest) rest)
+      go true ih = ap (λ (x : List (List ℕ)). carried r ∷ x) ih
       go false ih = ih
 
   pub due-same : due b ≡ dueHeaders b
@@ -166,25 +123,25 @@ module _ (b : List (List ℕ)) (ok : every recordOk b ≡ true) where
 
 -- n is a notice that is not withdrawn and carries the header h, and no aired record does
 abbrev MakesDue : List (List ℕ) → List ℕ → List ℕ → Type 0
-MakesDue b h n = ((kind n ≡ 1) × ((On b 2 key (key n) → ⊥) × (header n ≡ h))) × (On b 3 header h → ⊥)
+MakesDue b h n = ((kind n ≡ 1) × ((On b 2 key (key n) → ⊥) × (carried n ≡ h))) × (On b 3 carried h → ⊥)
 
 makes-is : (b : List (List ℕ)) (h n : List ℕ) → (makesDue b h n ≡ true) ↔ MakesDue b h n
 makes-is b h n =
     and-iff (carriesIt b h n) (not (airedOn b h)) _ _
-    (and-iff (eqb (kind n) 1) (not (withdrawn b n) && same (header n) h) _ _ (eqb-iff (kind n) 1)
-    (and-iff (not (withdrawn b n)) (same (header n) h) _ _ (not-iff (withdrawn b n) _ (on-is b 2 key (key n))) (same-iff (header n) h)))
-    (not-iff (airedOn b h) _ (on-is b 3 header h))
+    (and-iff (eqb (kind n) 1) (not (withdrawn b n) && same (carried n) h) _ _ (eqb-iff (kind n) 1)
+    (and-iff (not (withdrawn b n)) (same (carried n) h) _ _ (not-iff (withdrawn b n) _ (on-is b 2 key (key n))) (same-iff (carried n) h)))
+    (not-iff (airedOn b h) _ (on-is b 3 carried h))
 
 pub due-is : (b : List (List ℕ)) (h : List ℕ) → In h (dueHeaders b) ↔ Due b h
-due-is b h = (λ m. ⊎-elim (λ k. to (in-map header h (passing makes b) .0 k)) absurd (in-insertAll h (map header (passing makes b)) [] .0 m), from)
+due-is b h = (λ m. ⊎-elim (λ k. to (in-map carried h (passing makes b) .0 k)) absurd (in-insertAll h (map carried (passing makes b)) [] .0 m), from)
   where
     makes : List ℕ → Bool
-    makes n = makesDue b (header n) n
+    makes n = makesDue b (carried n) n
 
-    to : ((n : List ℕ) × In n (passing makes b) × (h ≡ header n)) → Due b h
+    to : ((n : List ℕ) × In n (passing makes b) × (h ≡ carried n)) → Due b h
     to w =
         let p = in-passing makes (w .0) b .0 (w .1) in
-        let v = makes-is b (header (w .0)) (w .0) .0 (p .1) in
+        let v = makes-is b (carried (w .0)) (w .0) .0 (p .1) in
         record {
           by = w .0;
           held = p .0;
@@ -197,10 +154,10 @@ due-is b h = (λ m. ⊎-elim (λ k. to (in-map header h (passing makes b) .0 k))
     from : Due b h → In h (dueHeaders b)
     from d =
         let withdrawn : On b 2 key (key (d .by)) → ⊥ = λ w. d .not-withdrawn (w .0) (w .1) (w .2) (w .3) in
-        let aired : On b 3 header (header (d .by)) → ⊥ = λ w. d .not-aired (w .0) (w .1) (w .2) (w .3 ∙ d .carries) in
-        let t : makes (d .by) ≡ true = makes-is b (header (d .by)) (d .by) .1 ((d .is-notice, (withdrawn, refl)), aired) in
-        in-insertAll h (map header (passing makes b)) [] .1
-        (inl (in-map header h (passing makes b) .1 (d .by, in-passing makes (d .by) b .1 (d .held, t), sym (d .carries))))
+        let aired : On b 3 carried (carried (d .by)) → ⊥ = λ w. d .not-aired (w .0) (w .1) (w .2) (w .3 ∙ d .carries) in
+        let t : makes (d .by) ≡ true = makes-is b (carried (d .by)) (d .by) .1 ((d .is-notice, (withdrawn, refl)), aired) in
+        in-insertAll h (map carried (passing makes b)) [] .1
+        (inl (in-map carried h (passing makes b) .1 (d .by, in-passing makes (d .by) b .1 (d .held, t), sym (d .carries))))
 
 pub due-sorted : (b : List (List ℕ)) → Sorted (dueHeaders b)
-due-sorted b = insertAll-sorted (map header (passing (λ n. makesDue b (header n) n) b)) [] tt
+due-sorted b = insertAll-sorted (map carried (passing (λ n. makesDue b (carried n) n) b)) [] tt

@@ -5,7 +5,7 @@
 --     carried-by                         a header that an alert carries and none names is one that a taken message carried
 use Prim.Native.Nat.{ℕ}
 use mathlib.Core.Bool.{Bool, true, false, true≢false}
-use mathlib.Core.Path.{_≡_, refl, sym, ap, _∙_, subst}
+use mathlib.Core.Path.{_≡_, refl, sym, ap, ap₂, _∙_, subst}
 use mathlib.Core.Logic.{inl, ⊎-elim, _↔_}
 use mathlib.Core.List.{List, [], _∷_, map}
 use borrow.Author.Tests.{eq-eqb}
@@ -13,13 +13,14 @@ use Rattle.octets.specs.Bytes.{pick}
 use Rattle.parts.specs.declared.Body.{Body}
 use Rattle.header.specs.Body.{bodyBytes}
 use Rattle.judgement.specs.WorkingJudged.{judgedOf}
-use Rattle.records.specs.Record.{recordOk, pad}
+use Rattle.records.specs.Record.{recordOk, carried, pad, notice}
+use Rattle.records.proofs.Records.{carried-notice}
 use Rattle.ledger.specs.Sorted.{In}
 use Rattle.ledger.specs.WorkingBoard.{Alert, records, Shaped, Carried}
 use Rattle.ledger.proofs.Sorts.{every-in, in-map}
 use Rattle.board.specs.WorkingRules.{Records}
 use Rattle.board.specs.WorkingCalls as calls
-use Rattle.board.specs.WorkingRuns.{offersTo, AllTaken, AllRecords}
+use Rattle.board.specs.WorkingRuns.{offersTo, AllTaken, AllRuled}
 use Rattle.offers.specs.WorkingRecords.{zeroFilledHeader, alertBy, recordsOf}
 use Rattle.offers.specs.Offer.{MessageOffering}
 use Rattle.offers.specs.WorkingOffer.{offerGiven, messageOffer}
@@ -74,7 +75,7 @@ module _ (m : List ℕ) (t : Takes m) where
 pub not-taken : (b m : List ℕ) → takes m ≡ false → messageOffer b m .bytes ≡ b
 not-taken b m f = offer-cases b m (λ (o : MessageOffering). o .bytes ≡ b) (λ n g k. refl) (λ t. absurd (true≢false (sym (takes-is m .1 (t .judged)) ∙ f)))
 
-pub all-records : (ms : List (List ℕ)) → AllRecords (alertsOf ms)
+pub all-records : (ms : List (List ℕ)) → AllRuled (alertsOf ms)
 all-records ms a i = let w = in-alerts ms a .0 i in subst (λ (x : Alert). Records (records x)) (sym (w .3)) (alert-records (w .0) (w .2))
 
 pub all-shaped : (ms : List (List ℕ)) (a : Alert) → In a (alertsOf ms) → Shaped a
@@ -125,29 +126,40 @@ module _ (m : List ℕ) (t : Takes m) where
       go true e = (absurd, λ w. absurd (true≢false (sym e ∙ w .0)))
       go false e = (⊎-elim (λ p. (e, sym (p ∙ header-is e))) absurd, λ w. inl (sym (w .1) ∙ sym (header-is e)))
 
+-- the header that the notice of its alert carries
+carried-is : (m : List ℕ) → Takes m → isQuiet m ≡ false → carried (notice (alertOf m .own) (zeroFilledHeader (judgedOf m))) ≡ ownHeader m
+carried-is m t q =
+    let sh = shaped m (zero m t) in
+    carried-notice (alertOf m .own) (zeroFilledHeader (judgedOf m)) (sh .own-long) (sh .carried-long (zeroFilledHeader (judgedOf m)) (carries-is m t (zeroFilledHeader (judgedOf m)) .1 (q, sym (header-is m t q))))
+    ∙ header-is m t q
+
 pub carried-by : (ms : List (List ℕ)) (h : List ℕ) → Carried (alertsOf ms) h ↔ CarriedBy ms h
 carried-by ms h = (to, from)
   where
     to : Carried (alertsOf ms) h → CarriedBy ms h
     to c =
         let w = in-alerts ms (c .by) .0 (c .taken) in
-        let k = carries-is (w .0) (w .2) h .0 (subst (λ (a : Alert). In h (a .carries)) (w .3) (c .carries)) in
-        let own : c .by .own ≡ ownKey (w .0) = ap (λ (a : Alert). a .own) (w .3) ∙ own-is (w .0) (w .2) in
+        let m : List ℕ = w .0 in
+        let k = carries-is m (w .2) (c .header) .0 (subst (λ (a : Alert). In (c .header) (a .carries)) (w .3) (c .has-it)) in
+        let own : c .by .own ≡ ownKey m = ap (λ (a : Alert). a .own) (w .3) ∙ own-is m (w .2) in
+        let is : c .header ≡ zeroFilledHeader (judgedOf m) = sym (k .1) ∙ sym (header-is m (w .2) (k .0)) in
         record {
-          by = w .0;
+          by = m;
           offered = w .1;
           taken = w .2;
           not-quiet = k .0;
-          carries = k .1;
-          not-named = λ m i t n. c .not-named (alertOf m) (in-alerts ms (alertOf m) .1 (m, i, t, refl))
-              (subst (λ (x : List ℕ). In x (alertOf m .names)) (sym own) (subst (In (ownKey (w .0))) (sym (names m t)) n));
+          carries = sym (carried-is m (w .2) (k .0)) ∙ ap₂ (λ (a : Alert) (x : List ℕ). carried (notice (a .own) x)) (sym (w .3)) (sym is) ∙ c .carries;
+          not-named = λ x i t n. c .not-named (alertOf x) (in-alerts ms (alertOf x) .1 (x, i, t, refl))
+              (subst (λ (y : List ℕ). In y (alertOf x .names)) (sym own) (subst (In (ownKey m)) (sym (names x t)) n));
         }
 
     from : CarriedBy ms h → Carried (alertsOf ms) h
     from c = record {
       by = alertOf (c .by);
       taken = in-alerts ms (alertOf (c .by)) .1 (c .by, c .offered, c .taken, refl);
-      carries = carries-is (c .by) (c .taken) h .1 (c .not-quiet, c .carries);
+      header = zeroFilledHeader (judgedOf (c .by));
+      has-it = carries-is (c .by) (c .taken) (zeroFilledHeader (judgedOf (c .by))) .1 (c .not-quiet, sym (header-is (c .by) (c .taken) (c .not-quiet)));
+      carries = carried-is (c .by) (c .taken) (c .not-quiet) ∙ c .carries;
       not-named = λ a i n.
           let w = in-alerts ms a .0 i in
           c .not-named (w .0) (w .1) (w .2)

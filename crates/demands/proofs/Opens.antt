@@ -2,8 +2,8 @@
 -- its own line names.
 use mathlib.Core.List.{flatMap}
 use Rattle.leaves.specs.Leaf.{decoded, leafValue}
-use Rattle.records.specs.Record.{aired, header, headerOk, key, keyOf, keyOk, notice, pad, recordOk, rest, sentIn, stampIn, withdrawal, zeroFilled}
-use Rattle.ledger.specs.WorkingBoard.{carried, carries, due, live, unwithdrawn}
+use Rattle.records.specs.Record.{aired, carried, header, headerOk, key, keyOf, keyOk, notice, pad, recordOk, rest, sentIn, stampIn, withdrawal, zeroFilled}
+use Rattle.ledger.specs.WorkingBoard.{carries, due, live, unwithdrawn}
 use Rattle.board.specs.WorkingCalls.{handOf}
 use Rattle.board.specs.WorkingCalls as board-calls
 use Rattle.board.specs.Rules.{boardOf}
@@ -20,11 +20,11 @@ unfolding decoded leafValue
 leaves-opens = tt
 
 records-opens : Unit {0}
-unfolding aired header headerOk key keyOf keyOk notice pad recordOk rest sentIn stampIn withdrawal zeroFilled
+unfolding aired carried header headerOk key keyOf keyOk notice pad recordOk rest sentIn stampIn withdrawal zeroFilled
 records-opens = tt
 
 ledger-opens : Unit {0}
-unfolding carried carries due live unwithdrawn
+unfolding carries due live unwithdrawn
 ledger-opens = tt
 
 board-opens : Unit {0}

@@ -17,14 +17,14 @@ use Rattle.judgement.specs.WorkingJudged.{judgedOf}
 use Rattle.records.specs.Record.{aired, recordOk}
 use Rattle.ledger.specs.declared.Row.{Row}
 use Rattle.ledger.specs.Sorted.{In, insert, insertAll}
-use Rattle.ledger.specs.WorkingBoard.{carried, due, After, handOutOf, handOut}
+use Rattle.ledger.specs.WorkingBoard.{due, After, handOutOf, handOut}
 use Rattle.ledger.proofs.Sorts.{insert-new, every-in, in-every}
 use Rattle.ledger.proofs.Dues.{in-due}
 use Rattle.board.specs.WorkingRules.{Records, boardOk}
 use Rattle.board.specs.Rules.{boardOf}
 use Rattle.board.specs.Calls as calls
 use Rattle.board.specs.WorkingCalls as working-calls
-use Rattle.board.proofs.Boards.{kept, board-within}
+use Rattle.board.proofs.Boards.{kept-rules, board-within}
 use Rattle.board.proofs.Answers.{hand-bad, list-bad}
 use Rattle.board.proofs.Keeps as keeps
 use Rattle.offers.specs.WorkingRecords.{recordsOf}
@@ -71,7 +71,7 @@ module _ (b s : List ℕ) (ok : boardOk b ≡ true) (z : judgedOf s .number ≡ 
 
   grown : length filled ≡ length (boardOf b) + newsOf b s
   grown =
-      adds-new (recordsOf s) (boardOf b) (boardOf b) (kept b ok .order) (λ y. (λ i. i, λ i. i))
+      adds-new (recordsOf s) (boardOf b) (boardOf b) (kept-rules b ok .order) (λ y. (λ i. i, λ i. i))
       ∙ ap (λ (rs : List (List ℕ)). length (boardOf b) + length (newTo (boardOf b) rs)) (records-are s z)
 
   good : Records (recordsOf s)
@@ -141,7 +141,7 @@ pub data Handed (b : List ℕ) : Type 0 where
 
 -- the records of a board keep their rules
 each-keeps : (b : List ℕ) → boardOk b ≡ true → every recordOk (boardOf b) ≡ true
-each-keeps b ok = in-every recordOk (boardOf b) (kept b ok .each)
+each-keeps b ok = in-every recordOk (boardOf b) (kept-rules b ok .each)
 
 -- what is due is what the library finds
 pub found-due : (b : List ℕ) → isBoard b ≡ true → due (boardOf b) ≡ dueHeaders (boardOf b)
@@ -170,7 +170,6 @@ module _ (b : List ℕ) (ok : boardOk b ≡ true) where
     }
 
   header-handed : keeps.Hand b → Handed b
-  unfolding carried
   header-handed (keeps.Hand.nothing f e) = nothing (board-same b ∙ ok) (are-due [] f) e
   header-handed (keeps.Hand.full h hs f l e) = full (board-same b ∙ ok) h hs (are-due (h ∷ hs) f) (omega (arith, one-more h hs f)) e
   header-handed (keeps.Hand.given h hs f l e) = handing record {

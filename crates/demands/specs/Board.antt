@@ -1,7 +1,7 @@
 -- "The board": the records that a message leaves, and what is due. b is the filled records of a board, m a message.
-use Prim.Native.Nat.{ℕ, zero, suc, _-_, _/_}
+use Prim.Native.Nat.{ℕ, zero, suc}
 use mathlib.Core.Path.{_≡_}
-use mathlib.Core.Bool.{Bool, true, false, _&&_, _||_, not}
+use mathlib.Core.Bool.{Bool, false, _&&_, _||_, not}
 use mathlib.Core.List.{List, [], _∷_, _++_, map}
 use lib.ListN.{length}
 use lib.Dec.{eqb}
@@ -9,7 +9,7 @@ use Rattle.octets.specs.Bytes.{pick, same}
 use Rattle.clock.specs.Time.{timeOf, instantIn}
 use Rattle.header.specs.Body.{bodyBytes}
 use Rattle.fields.specs.References.{senderOf, identifierOf, sentOf, words}
-use Rattle.records.specs.Record.{kind, key, header, pad, keyOf, notice, withdrawal}
+use Rattle.records.specs.Record.{kind, key, carried, pad, keyOf, notice, withdrawal}
 use Rattle.ledger.specs.Sorted.{In, has, insertAll}
 use Rattle.ledger.specs.declared.Row.{Row}
 use Rattle.told.specs.Values.{passing, isOne}
@@ -53,11 +53,11 @@ abbrev pub withdrawn : List (List ℕ) → List ℕ → Bool
 withdrawn b n = some (λ w. eqb (kind w) 2 && same (key w) (key n)) b
 
 abbrev pub airedOn : List (List ℕ) → List ℕ → Bool
-airedOn b h = some (λ a. eqb (kind a) 3 && same (header a) h) b
+airedOn b h = some (λ a. eqb (kind a) 3 && same (carried a) h) b
 
 -- a notice not withdrawn that carries the header
 abbrev pub carriesIt : List (List ℕ) → List ℕ → List ℕ → Bool
-carriesIt b h n = eqb (kind n) 1 && (not (withdrawn b n) && same (header n) h)
+carriesIt b h n = eqb (kind n) 1 && (not (withdrawn b n) && same (carried n) h)
 
 -- a notice that makes the header due: it is not withdrawn and carries it, and no aired record does
 abbrev pub makesDue : List (List ℕ) → List ℕ → List ℕ → Bool
@@ -65,16 +65,16 @@ makesDue b h n = carriesIt b h n && not (airedOn b h)
 
 -- the due headers, in header order
 abbrev pub dueHeaders : List (List ℕ) → List (List ℕ)
-dueHeaders b = insertAll (map header (passing (λ n. makesDue b (header n) n) b)) []
+dueHeaders b = insertAll (map carried (passing (λ n. makesDue b (carried n) n) b)) []
 
 -- a header is due if a notice not withdrawn carries it and no aired record does
 pub record Due (b : List (List ℕ)) (h : List ℕ) : Type 0 where
   pub by : List ℕ
   pub held : In by b
   pub is-notice : kind by ≡ 1
-  pub carries : header by ≡ h
+  pub carries : carried by ≡ h
   pub not-withdrawn : (w : List ℕ) → In w b → kind w ≡ 2 → key w ≡ key by → ⊥
-  pub not-aired : (a : List ℕ) → In a b → kind a ≡ 3 → header a ≡ h → ⊥
+  pub not-aired : (a : List ℕ) → In a b → kind a ≡ 3 → carried a ≡ h → ⊥
 
 -- the index of the first that passes, counted from 0
 abbrev pub firstIndex : (List ℕ → Bool) → List (List ℕ) → ℕ

@@ -6,7 +6,7 @@ use mathlib.Core.List.{List, [], _∷_, _++_}
 use lib.Dec.{eqb}
 use lib.ListN.{getD}
 use Rattle.octets.specs.Bytes.{pick}
-use Rattle.records.specs.Record.{header}
+use Rattle.records.specs.Record.{carried}
 use Rattle.ledger.specs.Sorted.{In}
 use Rattle.board.specs.Rules.{boardOf}
 use Rattle.demands.specs.Calls.{Calls}
@@ -46,7 +46,7 @@ pub record CarriedBy (ms : List (List ℕ)) (h : List ℕ) : Type 0 where
 
 -- the header that a hand-out gives: that of the notice at the index answered; none where it is refused
 abbrev pub headerGiven : Calls → List ℕ → List (List ℕ)
-headerGiven c b = pick (eqb (c .handing b .answer .number) 0) (header (getD (boardOf b) (c .handing b .answer .index) []) ∷ []) []
+headerGiven c b = pick (eqb (c .handing b .answer .number) 0) (carried (getD (boardOf b) (c .handing b .answer .index) []) ∷ []) []
 
 -- what n hand-outs give
 abbrev pub handOuts : Calls → ℕ → List ℕ → List (List ℕ)

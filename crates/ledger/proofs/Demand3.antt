@@ -1,13 +1,12 @@
--- The four sentences of demand 3, of a board as the list of its filled records.
+-- Sentences 1, 3 and 4 of demand 3, of a board as the list of its filled records. Sentence 2 is in Taken.
 --     same-board     the same alerts, each once or more, in any order: equal boards
---     due-exactly    what is then due
 --     in-order       hand-outs, while there is room, give the due headers in byte order, each once
 --     once           over any mixture of calls no header is handed out twice
 use Prim.Native.Nat.{ℕ, zero, suc, _+_, _≤_}
 use mathlib.Core.Bool.{Bool}
 use mathlib.Core.Path.{_≡_, refl, sym, ap, _∙_, subst}
 use mathlib.Core.Logic.{_⊎_, inl, inr, ⊎-elim, _↔_}
-use mathlib.Core.List.{List, [], _∷_, _++_, map}
+use mathlib.Core.List.{List, [], _∷_, _++_}
 use native.Mathlib.Omega.{arith}
 use lib.Dec.{leb}
 use lib.ListN.{length, take}
@@ -16,12 +15,11 @@ use Rattle.octets.specs.declared.Order.the-variants.{Less}
 use Rattle.octets.specs.Bytes.{pick}
 use Rattle.octets.specs.Order.{cmp}
 use Rattle.octets.proofs.Tests.{either-way}
-use Rattle.records.specs.Record.{kind, key, notice, withdrawal, aired}
-use Rattle.records.proofs.Records.{withdrawal-inj, kind-notice, kind-withdrawal, kind-aired, key-notice}
+use Rattle.records.specs.Record.{aired}
 use Rattle.ledger.specs.Sorted.{In, Sorted, insert, insertAll}
-use Rattle.ledger.specs.WorkingBoard.{carried, due, Due, Alert, records, Shaped, Carried, offer, offers, Taken, After, handOutOf, hands, Call, offered, handedOut, given, Once}
-use Rattle.ledger.proofs.Sorts.{in-insert, in-insertAll, insertAll-sorted, insert-length, sorted-ext, not-before-self, in-append, in-map}
-use Rattle.ledger.proofs.Dues.{carried-notice, in-due, due-sorted, due-aired}
+use Rattle.ledger.specs.WorkingBoard.{due, Alert, records, offer, offers, Taken, After, handOutOf, hands, Call, offered, handedOut, given, Once}
+use Rattle.ledger.proofs.Sorts.{in-insert, in-insertAll, insertAll-sorted, insert-length, sorted-ext, not-before-self}
+use Rattle.ledger.proofs.Dues.{in-due, due-sorted, due-aired}
 
 -- an offer that has room
 offer-taken : (cap : ℕ) (a : Alert) (b : List (List ℕ)) → length (insertAll (records a) b) ≤ cap → offer cap a b ≡ insertAll (records a) b
@@ -63,55 +61,6 @@ same-board cap cap′ l l′ t t′ f g =
     sorted-ext (offers cap l []) (offers cap′ l′ []) (offers-sorted cap l [] tt) (offers-sorted cap′ l′ [] tt)
     (λ y m. let w = in-offers-nil cap y l t .0 m in in-offers-nil cap′ y l′ t′ .1 (w .0, f (w .0) (w .1), w .2))
     (λ y m. let w = in-offers-nil cap′ y l′ t′ .0 m in in-offers-nil cap y l t .1 (w .0, g (w .0) (w .1), w .2))
-
-in-records : (y : List ℕ) (a : Alert) → In y (records a) ↔ (((h : List ℕ) × In h (a .carries) × (y ≡ notice (a .own) h)) ⊎ ((k : List ℕ) × In k (a .names) × (y ≡ withdrawal k)))
-in-records y a = (
-  λ m. ⊎-elim (λ k. inl (in-map (notice (a .own)) y (a .carries) .0 k)) (λ k. inr (in-map withdrawal y (a .names) .0 k)) (in-append y (map (notice (a .own)) (a .carries)) (map withdrawal (a .names)) .0 m),
-  ⊎-elim (λ w. in-append y (map (notice (a .own)) (a .carries)) (map withdrawal (a .names)) .1 (inl (in-map (notice (a .own)) y (a .carries) .1 w)))
-      (λ w. in-append y (map (notice (a .own)) (a .carries)) (map withdrawal (a .names)) .1 (inr (in-map withdrawal y (a .names) .1 w))),
-)
-
-withdrawn-named : (k : List ℕ) (a : Alert) → In (withdrawal k) (records a) → In k (a .names)
-withdrawn-named k a m = ⊎-elim (λ w. absurd (let q = sym (kind-withdrawal k) ∙ ap kind (w .2) ∙ kind-notice (a .own) (w .0) in omega arith)) (λ w. subst (λ (x : List ℕ). In x (a .names)) (sym (withdrawal-inj k (w .0) (w .2))) (w .1)) (in-records (withdrawal k) a .0 m)
-
-not-aired : (h : List ℕ) (a : Alert) → In (aired h) (records a) → ⊥
-not-aired h a m = ⊎-elim (λ w. let q = sym (kind-aired h) ∙ ap kind (w .2) ∙ kind-notice (a .own) (w .0) in omega arith) (λ w. let q = sym (kind-aired h) ∙ ap kind (w .2) ∙ kind-withdrawal (w .0) in omega arith) (in-records (aired h) a .0 m)
-
--- ---- sentence 2: what is then due
-
-module _ (cap : ℕ) (l : List Alert) (t : Taken cap l []) (shaped : (a : Alert) → In a l → Shaped a) (h : List ℕ) where
-  due-carried : Due (offers cap l []) h → Carried l h
-  due-carried d = go (in-offers-nil cap (d .by) l t .0 (d .held))
-    where
-      from : (a : Alert) → In a l → (x : List ℕ) → In x (a .carries) → d .by ≡ notice (a .own) x → Carried l h
-      from a m x c p =
-          let e : carried (notice (a .own) x) ≡ x = carried-notice (a .own) x (shaped a m .own-long) (shaped a m .carried-long x c) in
-          let k : key (d .by) ≡ a .own = ap key p ∙ key-notice (a .own) x (shaped a m .own-long) in
-          record {
-            by = a;
-            taken = m;
-            carries = subst (λ (y : List ℕ). In y (a .carries)) (sym e ∙ ap carried (sym p) ∙ d .carries) c;
-            not-named = λ a′ m′ n. d .not-withdrawn (subst (λ (y : List ℕ). In (withdrawal y) (offers cap l [])) (sym k) (in-offers-nil cap (withdrawal (a .own)) l t .1 (a′, m′, in-records (withdrawal (a .own)) a′ .1 (inr (a .own, n, refl)))));
-          }
-
-      go : Sent (d .by) l → Carried l h
-      go w = ⊎-elim (λ v. from (w .0) (w .1) (v .0) (v .1) (v .2)) (λ v. absurd (let q = sym (d .is-notice) ∙ ap kind (v .2) ∙ kind-withdrawal (v .0) in omega arith)) (in-records (d .by) (w .0) .0 (w .2))
-
-  carried-due : Carried l h → Due (offers cap l []) h
-  carried-due c =
-      let a = c .by in
-      let s = shaped (c .by) (c .taken) in
-      record {
-        by = notice (c .by .own) h;
-        held = in-offers-nil cap (notice (c .by .own) h) l t .1 (c .by, c .taken, in-records (notice (c .by .own) h) (c .by) .1 (inl (h, c .carries, refl)));
-        is-notice = kind-notice (c .by .own) h;
-        carries = carried-notice (c .by .own) h (s .own-long) (s .carried-long h (c .carries));
-        not-withdrawn = λ m. let w = in-offers-nil cap (withdrawal (key (notice (c .by .own) h))) l t .0 m in c .not-named (w .0) (w .1) (subst (λ (y : List ℕ). In y (w .0 .names)) (key-notice (c .by .own) h (s .own-long)) (withdrawn-named (key (notice (c .by .own) h)) (w .0) (w .2)));
-        not-aired = λ m. let w = in-offers-nil cap (aired h) l t .0 m in not-aired h (w .0) (w .2);
-      }
-
-  pub due-exactly : In h (due (offers cap l [])) ↔ Carried l h
-  due-exactly = (λ m. due-carried (in-due (offers cap l []) h .0 m), λ c. in-due (offers cap l []) h .1 (carried-due c))
 
 -- ---- sentence 3: hand-outs, while there is room, give the due headers in byte order, each once
 

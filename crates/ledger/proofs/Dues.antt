@@ -8,22 +8,17 @@ use mathlib.Core.Path.{_≡_, refl, sym, ap, _∙_, subst}
 use mathlib.Core.Logic.{_⊎_, inl, inr, ⊎-elim, _↔_}
 use mathlib.Core.List.{List, [], _∷_}
 use native.Mathlib.Omega.{arith}
-use lib.ListN.{length}
 use borrow.Author.Tests.{eqb-true, eq-eqb}
 use Rattle.octets.specs.declared.Order.the-variants.{More}
 use Rattle.octets.specs.Bytes.{pick}
 use Rattle.octets.specs.Order.{cmp}
 use Rattle.octets.proofs.Orders.{first-above}
 use Rattle.octets.proofs.Tests.{each-of, every-of}
-use Rattle.records.specs.Record.{kind, key, notice, withdrawal, aired}
-use Rattle.records.proofs.Records.{aired-inj, kind-withdrawal, kind-aired, header-notice}
+use Rattle.records.specs.Record.{kind, key, carried, withdrawal, aired}
+use Rattle.records.proofs.Records.{aired-inj, kind-withdrawal, kind-aired}
 use Rattle.ledger.specs.Sorted.{In, Sorted, insert}
-use Rattle.ledger.specs.WorkingBoard.{carried, unwithdrawn, live, headers, due, Due}
+use Rattle.ledger.specs.WorkingBoard.{unwithdrawn, live, headers, due, Due}
 use Rattle.ledger.proofs.Sorts.{in-insert, in-insertAll, insertAll-sorted, has-not}
-
-pub carried-notice : (k h : List ℕ) → length k ≡ 132 → length h ≡ 243 → carried (notice k h) ≡ h
-unfolding carried
-carried-notice k h e f = header-notice k h e f
 
 -- a record of a later kind comes after
 pub later-kind : (a r : List ℕ) → kind r < kind a → cmp a r ≡ More

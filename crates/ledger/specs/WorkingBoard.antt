@@ -6,15 +6,11 @@ use mathlib.Core.List.{List, [], _∷_, _++_, map}
 use lib.Dec.{leb, eqb}
 use lib.ListN.{length}
 use Rattle.octets.specs.Bytes.{pick, every, holds, same}
-use Rattle.records.specs.Record.{kind, key, header, notice, withdrawal, aired}
+use Rattle.records.specs.Record.{kind, key, carried, notice, withdrawal, aired}
 use Rattle.ledger.specs.declared.Row.{Row}
 use Rattle.ledger.specs.Sorted.{In, has, insert, insertAll}
 
 -- ---- what is due
-
--- the header that a record carries, by which headers are compared and put in order
-unfoldable pub carried : List ℕ → List ℕ
-carried r = header r
 
 -- a notice that no withdrawal on b withdraws
 unfoldable pub unwithdrawn : List (List ℕ) → List ℕ → Bool
@@ -87,11 +83,6 @@ records a = map (notice (a .own)) (a .carries) ++ map withdrawal (a .names)
 abbrev pub offer : ℕ → Alert → List (List ℕ) → List (List ℕ)
 offer cap a b = pick (leb (length (insertAll (records a) b)) cap) (insertAll (records a) b) b
 
--- the board after offers
-abbrev pub offers : ℕ → List Alert → List (List ℕ) → List (List ℕ)
-offers cap [] b = b
-offers cap (a ∷ r) b = offers cap r (offer cap a b)
-
 -- no offer is refused for room
 abbrev pub Taken : ℕ → List Alert → List (List ℕ) → Type 0
 Taken cap [] b = Unit {0}
@@ -102,11 +93,13 @@ pub record Shaped (a : Alert) : Type 0 where
   pub own-long : length (a .own) ≡ 132
   pub carried-long : (h : List ℕ) → In h (a .carries) → length h ≡ 243
 
--- one of l carries the header h, and none of l names it
+-- the notice of one of l carries the header h, and none of l names it
 pub record Carried (l : List Alert) (h : List ℕ) : Type 0 where
   pub by : Alert
   pub taken : In by l
-  pub carries : In h (by .carries)
+  pub header : List ℕ
+  pub has-it : In header (by .carries)
+  pub carries : carried (notice (by .own) header) ≡ h
   pub not-named : (a : Alert) → In a l → In (by .own) (a .names) → ⊥
 
 -- ---- hand-outs
@@ -146,6 +139,31 @@ step cap handedOut b = handOut cap b
 abbrev pub given : ℕ → List Call → List (List ℕ) → List (List ℕ)
 given cap [] b = []
 given cap (c ∷ cs) b = step cap c b .given ++ given cap cs (step cap c b .board)
+
+-- the board after them
+abbrev pub ran : ℕ → List Call → List (List ℕ) → List (List ℕ)
+ran cap [] b = b
+ran cap (c ∷ cs) b = ran cap cs (step cap c b .board)
+
+-- and after offers alone
+abbrev pub offers : ℕ → List Alert → List (List ℕ) → List (List ℕ)
+offers cap l b = ran cap (map offered l) b
+
+-- the alert of a call that is an offer and has room
+abbrev pub takenBy : ℕ → Call → List (List ℕ) → List Alert
+takenBy cap (offered a) b = pick (leb (length (insertAll (records a) b)) cap) (a ∷ []) []
+takenBy cap handedOut b = []
+
+-- the alerts taken by a run of calls
+abbrev pub takenIn : ℕ → List Call → List (List ℕ) → List Alert
+takenIn cap [] b = []
+takenIn cap (c ∷ cs) b = takenBy cap c b ++ takenIn cap cs (step cap c b .board)
+
+-- each alert offered among them is of this kind
+abbrev pub Offered : (Alert → Type 0) → List Call → Type 0
+Offered P [] = Unit {0}
+Offered P (offered a ∷ cs) = P a × Offered P cs
+Offered P (handedOut ∷ cs) = Offered P cs
 
 -- no header twice
 abbrev pub Once : List (List ℕ) → Type 0

@@ -4,7 +4,8 @@ use mathlib.Core.Bool.{Bool, true, false}
 use mathlib.Core.List.{List, [], _∷_}
 use Rattle.octets.specs.Bytes.{every, holds}
 use Rattle.octets.specs.Order.{cmp, choose}
-use Rattle.ledger.specs.WorkingBoard.{carried, live, ordered, indexOf}
+use Rattle.records.specs.Record.{carried}
+use Rattle.ledger.specs.WorkingBoard.{live, ordered, indexOf}
 
 -- live on b, with a header that comes after h
 unfoldable pub after : List (List ℕ) → List ℕ → List ℕ → Bool

@@ -1,5 +1,6 @@
 pub mod ZeroFill
 pub mod Stamps
 pub mod Records
+pub mod Fields
 pub mod Making
 pub mod Judging

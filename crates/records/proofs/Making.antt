@@ -70,8 +70,12 @@ pub withdrawal-put : (k x : List ℕ) → length k ≡ 132 → x ≡ sets (fresh
 withdrawal-put k x l px =
     field-put (2 ∷ []) (fresh 2) x k 1 383 132 refl refl (omega arith) (omega arith) px ∙ ap (λ (w : List ℕ). (2 ∷ w) ++ replicate 251 0) (pad-whole 132 k l) ∙ withdrawal-made k
 
-pub aired-made : (h x : List ℕ) → length h ≤ 243 → x ≡ sets (fresh 3) 133 h → x ≡ aired (pad 243 h)
+pub aired-made : (g x : List ℕ) → length g ≡ 243 → x ≡ sets (fresh 3) 133 g → x ≡ aired g
 unfolding aired
-aired-made h x l px =
-    field-put (3 ∷ replicate 132 0) (fresh 3) x h 133 251 243 (ap (λ (w : List ℕ). 3 ∷ w) (sym (replicate-append-replicate 132 251 0))) (ap suc (length-replicate {A = ℕ} 132 0)) l (omega arith) px
-    ∙ append-assoc (3 ∷ replicate 132 0) (pad 243 h) (replicate 8 0)
+aired-made g x l px =
+    field-put (3 ∷ replicate 132 0) (fresh 3) x g 133 251 243 (ap (λ (w : List ℕ). 3 ∷ w) (sym (replicate-append-replicate 132 251 0))) (ap suc (length-replicate {A = ℕ} 132 0)) (omega arith) (omega arith) px
+    ∙ ap (λ (w : List ℕ). ((3 ∷ replicate 132 0) ++ w) ++ replicate 8 0) (pad-whole 243 g l)
+    ∙ append-assoc (3 ∷ replicate 132 0) g (replicate 8 0)
+
+pub copy-made : (h x : List ℕ) → length h ≡ 243 → x ≡ sets (replicate 243 0) 0 h → x ≡ h
+copy-made h x l px = laid 243 h x (omega arith) px ∙ pad-whole 243 h l

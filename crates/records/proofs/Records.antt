@@ -2,7 +2,8 @@
 --     record-long, record-kind        384 bytes, of kind 1, 2 or 3
 --     key-notice, header-notice, ..   what a maker was given stands in its field
 --     notice-ok, withdrawal-ok        parts that keep their rules make records that keep theirs
---     airs-ok                         and so does the aired record of a notice's header
+--     carried-long, carried-notice    the header that a record carries
+--     airs-ok                         the aired record of a notice's keeps its rules
 use Prim.Native.Nat.{ℕ, _≤_, _<_}
 use mathlib.Core.Bool.{Bool, true, false, true≢false}
 use mathlib.Core.List.{List, [], _∷_, _++_, append-cancel-left, append-cancel-right, tail-eq-of-cons-eq}
@@ -23,7 +24,7 @@ use Rattle.header.specs.Body.{timesPart, bodyForm}
 use Rattle.header.proofs.Reading.{body-long}
 use Rattle.fields.specs.Fields.{identityOk}
 use Rattle.fields.proofs.Identities.{identity-short}
-use Rattle.records.specs.Record.{kind, key, sentIn, senderIn, identifierIn, header, rest, zeros, zeroFilled, keyTests, keyOk, headerOk, stampIn, noticeTests, kindTests, recordTests, recordOk, pad, keyOf, notice, withdrawal, aired}
+use Rattle.records.specs.Record.{kind, key, sentIn, senderIn, identifierIn, header, rest, carried, zeros, zeroFilled, keyTests, keyOk, headerOk, stampIn, noticeTests, kindTests, recordTests, recordOk, pad, keyOf, notice, withdrawal, aired}
 use Rattle.records.proofs.ZeroFill.{zeros-made, pad-long, filled-pad, filled-ok, identity-full, body-full}
 
 -- ---- what a record keeps
@@ -174,8 +175,23 @@ made-aired h l ok =
     record-ok (aired h) 3 (aired-long h l) (kind-aired h)
     (ap zeros (key-aired h l) ∙ zeros-made 132, (ap headerOk (header-aired h l) ∙ ok, (ap zeros (rest-aired h l) ∙ zeros-made 8, tt)))
 
-pub airs-ok : (r : List ℕ) → recordOk r ≡ true → kind r ≡ 1 → recordOk (aired (header r)) ≡ true
-airs-ok r h e = made-aired (header r) (header-long r (record-long r h)) (of-notice r h e .1 .0)
+-- ---- the header that a record carries
+
+pub carried-long : (r : List ℕ) → length r ≡ 384 → length (carried r) ≡ 243
+unfolding carried
+carried-long r l = header-long r l
+
+pub carried-notice : (k h : List ℕ) → length k ≡ 132 → length h ≡ 243 → carried (notice k h) ≡ h
+unfolding carried
+carried-notice k h lk lh = header-notice k h lk lh
+
+pub carried-aired : (h : List ℕ) → length h ≡ 243 → carried (aired h) ≡ h
+unfolding carried
+carried-aired h l = header-aired h l
+
+pub airs-ok : (r : List ℕ) → recordOk r ≡ true → kind r ≡ 1 → recordOk (aired (carried r)) ≡ true
+unfolding carried
+airs-ok r h e = made-aired (carried r) (carried-long r (record-long r h)) (of-notice r h e .1 .0)
 
 module _ (sent : ℕ) (sender identifier : List ℕ) where
   pub key-of-long : length sender ≤ 64 → length identifier ≤ 64 → length (keyOf sent sender identifier) ≡ 132

@@ -44,6 +44,10 @@ header r = part r 133 243
 unfoldable pub rest : List ℕ → List ℕ
 rest r = part r 376 8
 
+-- the header that a notice or an aired record carries: by it headers are the same, and are put in order
+unfoldable pub carried : List ℕ → List ℕ
+carried r = header r
+
 -- ---- the rules of a field
 
 abbrev pub zeros : List ℕ → Bool

@@ -10,7 +10,7 @@ ghost use Rattle.octets.specs.Bytes.{every, holds, same};
 ghost use Rattle.clock.specs.Time.{span};
 ghost use Rattle.clock.specs.Stamp.{stampOf, stamped};
 ghost use Rattle.fields.specs.Fields.{identityOk};
-ghost use Rattle.records.specs.Record.{sentIn, zeros, filledIn, zeroFilled, keyOk, headerOk, readIn, stampIn, noticeTests, withdrawalTests, airedTests, recordOk, pad, be4, keyOf, notice, withdrawal, aired};
+ghost use Rattle.records.specs.Record.{sentIn, zeros, filledIn, zeroFilled, keyOk, headerOk, readIn, stampIn, noticeTests, withdrawalTests, airedTests, recordOk, pad, be4, keyOf, notice, withdrawal, aired, carried};
 
 pub struct Record {
     pub bytes: [u8; Record::SIZE],
@@ -31,6 +31,9 @@ impl Record {
     pub const HEADER: usize = 133;
 
     pub const ZEROS: usize = 376;
+
+    // The bytes of the header that a record carries.
+    pub const CARRIED: usize = 243;
 
     // Kinds.
     pub const NOTICE: u8 = 1;
@@ -60,8 +63,8 @@ impl Record {
 
     // An aired record has only a header.
     pub fn aired(header: &[u8]) -> Record
-        requires { ⌜ length (now header) ≤ 243 ⌝ }
-        ensures { λ r. ⌜ r .bytes ≡ aired (pad 243 (now (header .entry))) ⌝ }
+        requires { ⌜ length (now header) ≡ 243 ⌝ }
+        ensures { λ r. ⌜ r .bytes ≡ aired (now (header .entry)) ⌝ }
     {
         let mut b = [0u8; Record::SIZE];
         b[Record::KIND] = Record::AIRED;
@@ -282,4 +285,23 @@ pub fn is_record(r: &[u8]) -> bool
         return is_aired(r);
     }
     false
+}
+
+// ---- the header of a record
+
+fn copied(h: &[u8]) -> [u8; Record::CARRIED]
+    requires { ⌜ length (now h) ≡ 243 ⌝ }
+    ensures { λ g. ⌜ g ≡ now (h .entry) ⌝ }
+{
+    let mut g = [0u8; Record::CARRIED];
+    octets::put_bytes(&mut g, 0, h);
+    g
+}
+
+// The header that a notice or an aired record carries.
+pub fn carried_by(r: &[u8]) -> [u8; Record::CARRIED]
+    requires { ⌜ length (now r) ≡ 384 ⌝ }
+    ensures { λ g. ⌜ g ≡ carried (now (r .entry)) ⌝ }
+{
+    copied(&r[Record::HEADER..Record::ZEROS])
 }

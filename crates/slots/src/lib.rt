@@ -1,4 +1,4 @@
-// Records in lent bytes, one after the other: whether one is held, where one goes, and records added in their places.
+// Records in lent bytes, one after the other: whether one is held, where one goes, records added in their places, and their headers.
 use octets::Order;
 use records::Record;
 ghost use mathlib.Core.Path.{_≡_};
@@ -6,6 +6,9 @@ ghost use mathlib.Core.List.{_++_};
 ghost use Prim.Native.Nat.{_+_, _*_, _≤_};
 ghost use lib.ListN.{length, take, drop};
 ghost use lib.Seq.{slice};
+ghost use Rattle.octets.specs.Bytes.{same};
+ghost use Rattle.octets.specs.Order.{cmp};
+ghost use Rattle.records.specs.Record.{carried, aired};
 ghost use Rattle.ledger.specs.Sorted.{has, Sorted, insert, insertAll};
 ghost use Rattle.slots.specs.WorkingSlots.{rec, flat, placeOf};
 ghost use Rattle.slots.specs.Slots.{recs};
@@ -138,4 +141,51 @@ pub fn add_all(s: &mut [u8], n: usize, batch: &[u8], m: usize) -> usize
         i += 1;
     }
     k
+}
+
+// ---- the headers of records
+
+// The header of record i.
+pub fn header_at(s: &[u8], i: usize) -> [u8; Record::CARRIED]
+    requires { ⌜ (i + 1) * 384 ≤ length (now s) ⌝ }
+    ensures { λ r. ⌜ r ≡ carried (rec i (now (s .entry))) ⌝ }
+{
+    records::carried_by(record_at(s, i))
+}
+
+// How a header stands to that of record i.
+pub fn compare_header(h: &[u8], s: &[u8], i: usize) -> Order
+    requires { ⌜ (i + 1) * 384 ≤ length (now s) ⌝ }
+    ensures { λ o. ⌜ o ≡ cmp (now (h .entry)) (carried (rec i (now (s .entry)))) ⌝ }
+{
+    let at = header_at(s, i);
+    octets::compare(h, &at)
+}
+
+// How the header of record i stands to that of record j.
+pub fn compare_headers(s: &[u8], i: usize, j: usize) -> Order
+    requires { ⌜ ((i + 1) * 384 ≤ length (now s)) × ((j + 1) * 384 ≤ length (now s)) ⌝ }
+    ensures { λ o. ⌜ o ≡ cmp (carried (rec i (now (s .entry)))) (carried (rec j (now (s .entry)))) ⌝ }
+{
+    let h = header_at(s, i);
+    compare_header(&h, s, j)
+}
+
+// Whether the two are the same.
+pub fn same_header(s: &[u8], i: usize, j: usize) -> bool
+    requires { ⌜ ((i + 1) * 384 ≤ length (now s)) × ((j + 1) * 384 ≤ length (now s)) ⌝ }
+    ensures { λ r. ⌜ r ≡ same (carried (rec i (now (s .entry)))) (carried (rec j (now (s .entry)))) ⌝ }
+{
+    let g = header_at(s, i);
+    let h = header_at(s, j);
+    octets::equal(&g, &h)
+}
+
+// The aired record of record i's header.
+pub fn aired_at(s: &[u8], i: usize) -> Record
+    requires { ⌜ (i + 1) * 384 ≤ length (now s) ⌝ }
+    ensures { λ r. ⌜ r .bytes ≡ aired (carried (rec i (now (s .entry)))) ⌝ }
+{
+    let h = header_at(s, i);
+    Record::aired(&h)
 }

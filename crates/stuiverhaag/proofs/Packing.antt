@@ -32,7 +32,7 @@ use Rattle.board.specs.Rules.{boardOf}
 use Rattle.board.specs.WorkingRules.{boardOk}
 use Rattle.board.specs.WorkingCalls as board
 use Rattle.board.specs.declared.Handed.{Handed}
-use Rattle.board.proofs.Boards.{board-within, kept}
+use Rattle.board.proofs.Boards.{board-within, kept-rules}
 use Rattle.board.proofs.Answers.{offer-bad, hand-bad}
 use Rattle.board.proofs.Keeps.{Offer, offer-is, Hand, hand-is}
 use Rattle.offers.specs.WorkingRecords.{recordsOf}
@@ -97,7 +97,7 @@ records-narrow : (s : List ℕ) (rs : List (List ℕ)) → NarrowOffered (offerG
 records-narrow s rs = go (boardOk s) refl
   where
     by : boardOk s ≡ true → Offer s rs → NarrowOffered (offerGiven (board.offerOf s rs) .answer)
-    by ok (Offer.taken l e) = rw e (record { number = omega arith; field = omega arith; added = omega (arith, l, kept s ok .high) })
+    by ok (Offer.taken l e) = rw e (record { number = omega arith; field = omega arith; added = omega (arith, l, kept-rules s ok .high) })
     by ok (Offer.full l e) = rw e (record { number = omega arith; field = omega arith; added = omega arith })
 
     go : (b : Bool) → boardOk s ≡ b → NarrowOffered (offerGiven (board.offerOf s rs) .answer)
@@ -136,7 +136,7 @@ hand-narrow s = go (boardOk s) refl
     by : boardOk s ≡ true → Hand s → NarrowHanded (board.handOf s .answer)
     by ok (Hand.nothing d e) = rw e (record { number = omega arith; index = omega arith })
     by ok (Hand.full h hs d l e) = rw e (record { number = omega arith; index = omega arith })
-    by ok (Hand.given h hs d l e) = rw e (record { number = omega arith; index = omega (arith, index-within (live (boardOf s)) h (boardOf s), board-within s, kept s ok .high) })
+    by ok (Hand.given h hs d l e) = rw e (record { number = omega arith; index = omega (arith, index-within (live (boardOf s)) h (boardOf s), board-within s, kept-rules s ok .high) })
 
     go : (b : Bool) → boardOk s ≡ b → NarrowHanded (board.handOf s .answer)
     go true ok = by ok (hand-is s ok)

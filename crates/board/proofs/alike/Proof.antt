@@ -1,9 +1,9 @@
 -- By the mark and by the two headers.
-use mathlib.Core.Path.{sym, ap₂, _∙_}
+use mathlib.Core.Path.{sym, _∙_}
 use native.Mathlib.Omega.{arith}
 use borrow.Author.Tests.{not-true, not-false}
-use Rattle.octets.specs.Bytes.{same}
-use Rattle.ledger.specs.WorkingBoard.{carried, live}
+use Rattle.records.specs.Record.{carried}
+use Rattle.ledger.specs.WorkingBoard.{live}
 use Rattle.slots.specs.WorkingSlots.{rec}
 use Rattle.slots.specs.Slots.{recs}
 use Rattle.board.proofs.Finds.{mark-at, not-alike, other-header, alike-yes}
@@ -20,26 +20,20 @@ returns c =
     let a = s .args in
     (not-alike (live (recs (a .n) (a .s .now))) (carried (rec (a .j) (a .s .now))) (rec (a .i) (a .s .now)) (sym (mark-at (live (recs (a .n) (a .s .now))) (a .s .now) (a .n) (a .i) (a .marks .now) (s .pre .4) (s .pre .3)) ∙ not-true _ (c .if1 .taken)), omega arith)
 
-header-at-requires : tie.Need-header-at-requires
-header-at-requires c κs = search needs
-
-header-at-requires-2 : tie.Need-header-at-requires-2
-header-at-requires-2 c κs = search needs
-
-equal-requires : tie.Need-equal-requires
-equal-requires c κs = search needs
+same-header-requires : tie.Need-same-header-requires
+same-header-requires c κs = search needs
 
 returns-2 : tie.Need-returns-2
 returns-2 c =
-    let s = c .before .before .before .before .before .before .before in
+    let s = c .before .before .before .before .before in
     let a = s .args in
-    (other-header (live (recs (a .n) (a .s .now))) (carried (rec (a .j) (a .s .now))) (rec (a .i) (a .s .now)) (sym (c .before .equal .ensures ∙ ap₂ same (c .before .before .before .header-at .ensures) (c .before .before .header-at2 .ensures)) ∙ not-true _ (c .if2 .taken)), omega arith)
+    (other-header (live (recs (a .n) (a .s .now))) (carried (rec (a .j) (a .s .now))) (rec (a .i) (a .s .now)) (sym (c .before .same-header .ensures) ∙ not-true _ (c .if2 .taken)), omega arith)
 
 returns-3 : tie.Need-returns-3
 returns-3 c =
-    let s = c .before .before .before .before .before .before .before in
+    let s = c .before .before .before .before .before in
     let a = s .args in
-    (alike-yes (live (recs (a .n) (a .s .now))) (carried (rec (a .j) (a .s .now))) (rec (a .i) (a .s .now)) (sym (mark-at (live (recs (a .n) (a .s .now))) (a .s .now) (a .n) (a .i) (a .marks .now) (s .pre .4) (s .pre .3)) ∙ not-false _ (c .before .before .before .before .if1 .left)) (sym (c .before .equal .ensures ∙ ap₂ same (c .before .before .before .header-at .ensures) (c .before .before .header-at2 .ensures)) ∙ not-false _ (c .if2 .left)), omega arith)
+    (alike-yes (live (recs (a .n) (a .s .now))) (carried (rec (a .j) (a .s .now))) (rec (a .i) (a .s .now)) (sym (mark-at (live (recs (a .n) (a .s .now))) (a .s .now) (a .n) (a .i) (a .marks .now) (s .pre .4) (s .pre .3)) ∙ not-false _ (c .before .before .if1 .left)) (sym (c .before .same-header .ensures) ∙ not-false _ (c .if2 .left)), omega arith)
 
 pub alike-spec : {M : Type 1} → statement M
 alike-spec =
@@ -47,8 +41,6 @@ alike-spec =
     (tie.spec
     element-copy-out-if1
     returns
-    header-at-requires
-    header-at-requires-2
-    equal-requires
+    same-header-requires
     returns-2
     returns-3)

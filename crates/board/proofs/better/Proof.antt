@@ -1,9 +1,8 @@
 -- One record more: it carries an earlier header, or the best so far stays.
-use mathlib.Core.Path.{sym, ap₂, _∙_}
+use mathlib.Core.Path.{sym, _∙_}
 use native.Mathlib.Omega.{arith}
 use borrow.Author.Tests.{not-true, not-false}
 use Rattle.octets.specs.declared.Order.the-variants.{Less, Same, More}
-use Rattle.octets.specs.Order.{cmp}
 use Rattle.slots.specs.Slots.{recs}
 use Rattle.ledger.specs.WorkingScan.{after}
 use Rattle.board.proofs.Finds.{go-same, go-first, go-within, go-by}
@@ -26,17 +25,11 @@ returns-2 c =
     let a = s .args in
     go-first (after (recs (a .n) (a .s .now)) (a .last .now)) (a .s .now) (a .n) (a .i) (a .best) (s .pre .1) (s .pre .0 .2) (sym (c .before .before .comes-after .ensures) ∙ not-false _ (c .before .if1 .left)) (c .if2 .taken)
 
-header-at-requires : tie.Need-header-at-requires
-header-at-requires c κs = search needs
-
-header-at-requires-2 : tie.Need-header-at-requires-2
-header-at-requires-2 c κs =
-    let s = c .before .before .before .before .before .before in
+compare-headers-requires : tie.Need-compare-headers-requires
+compare-headers-requires c κs =
+    let s = c .before .before .before .before .before in
     let a = s .args in
-    omega (arith, go-within (after (recs (a .n) (a .s .now)) (a .last .now)) (a .s .now) (a .n) (a .i) (a .best) (s .pre .1) (s .pre .0 .2) (c .before .if2 .left))
-
-compare-requires : tie.Need-compare-requires
-compare-requires c κs = search needs
+    (omega (arith, s .pre), omega (arith, s .pre, go-within (after (recs (a .n) (a .s .now)) (a .last .now)) (a .s .now) (a .n) (a .i) (a .best) (s .pre .1) (s .pre .0 .2) (c .if2 .left)))
 
 enum-told : tie.Need-enum-told
 enum-told c = search needs
@@ -49,24 +42,24 @@ enum-told-3 c = search needs
 
 returns-3 : tie.Need-returns-3
 returns-3 c =
-    let s = c .before .before .before .before .before .before .before .before .before .before in
+    let s = c .before .before .before .before .before .before .before .before in
     let a = s .args in
-    go-by (after (recs (a .n) (a .s .now)) (a .last .now)) (a .s .now) (a .n) (a .i) (a .best) (s .pre .1) (s .pre .0 .2) (sym (c .before .before .before .before .before .before .before .comes-after .ensures) ∙ not-false _ (c .before .before .before .before .before .before .if1 .left)) (c .before .before .before .before .before .if2 .left) Less
-    (sym (c .enum-told .given .1) ∙ c .before .before .compare .ensures ∙ ap₂ cmp (c .before .before .before .before .header-at .ensures) (c .before .before .before .header-at2 .ensures))
+    go-by (after (recs (a .n) (a .s .now)) (a .last .now)) (a .s .now) (a .n) (a .i) (a .best) (s .pre .1) (s .pre .0 .2) (sym (c .before .before .before .before .before .comes-after .ensures) ∙ not-false _ (c .before .before .before .before .if1 .left)) (c .before .before .before .if2 .left) Less
+    (sym (c .enum-told .given .1) ∙ c .before .before .compare-headers .ensures)
 
 returns-4 : tie.Need-returns-4
 returns-4 c =
-    let s = c .before .before .before .before .before .before .before .before .before .before in
+    let s = c .before .before .before .before .before .before .before .before in
     let a = s .args in
-    go-by (after (recs (a .n) (a .s .now)) (a .last .now)) (a .s .now) (a .n) (a .i) (a .best) (s .pre .1) (s .pre .0 .2) (sym (c .before .before .before .before .before .before .before .comes-after .ensures) ∙ not-false _ (c .before .before .before .before .before .before .if1 .left)) (c .before .before .before .before .before .if2 .left) Same
-    (sym (c .enum-told2 .given .1) ∙ c .before .before .compare .ensures ∙ ap₂ cmp (c .before .before .before .before .header-at .ensures) (c .before .before .before .header-at2 .ensures))
+    go-by (after (recs (a .n) (a .s .now)) (a .last .now)) (a .s .now) (a .n) (a .i) (a .best) (s .pre .1) (s .pre .0 .2) (sym (c .before .before .before .before .before .comes-after .ensures) ∙ not-false _ (c .before .before .before .before .if1 .left)) (c .before .before .before .if2 .left) Same
+    (sym (c .enum-told2 .given .1) ∙ c .before .before .compare-headers .ensures)
 
 returns-5 : tie.Need-returns-5
 returns-5 c =
-    let s = c .before .before .before .before .before .before .before .before .before .before in
+    let s = c .before .before .before .before .before .before .before .before in
     let a = s .args in
-    go-by (after (recs (a .n) (a .s .now)) (a .last .now)) (a .s .now) (a .n) (a .i) (a .best) (s .pre .1) (s .pre .0 .2) (sym (c .before .before .before .before .before .before .before .comes-after .ensures) ∙ not-false _ (c .before .before .before .before .before .before .if1 .left)) (c .before .before .before .before .before .if2 .left) More
-    (sym (c .enum-told3 .given .1) ∙ c .before .before .compare .ensures ∙ ap₂ cmp (c .before .before .before .before .header-at .ensures) (c .before .before .before .header-at2 .ensures))
+    go-by (after (recs (a .n) (a .s .now)) (a .last .now)) (a .s .now) (a .n) (a .i) (a .best) (s .pre .1) (s .pre .0 .2) (sym (c .before .before .before .before .before .comes-after .ensures) ∙ not-false _ (c .before .before .before .before .if1 .left)) (c .before .before .before .if2 .left) More
+    (sym (c .enum-told3 .given .1) ∙ c .before .before .compare-headers .ensures)
 
 pub better-spec : {M : Type 1} → statement M
 better-spec =
@@ -75,9 +68,7 @@ better-spec =
     comes-after-requires
     returns
     returns-2
-    header-at-requires
-    header-at-requires-2
-    compare-requires
+    compare-headers-requires
     enum-told
     enum-told-2
     enum-told-3

@@ -1,8 +1,7 @@
 -- By the mark and by the order of the two headers.
-use mathlib.Core.Path.{sym, ap, _∙_}
+use mathlib.Core.Path.{sym, _∙_}
 use borrow.Author.Tests.{not-true, not-false}
 use Rattle.octets.specs.declared.Order.the-variants.{Less, Same, More}
-use Rattle.octets.specs.Order.{cmp}
 use Rattle.ledger.specs.WorkingBoard.{live}
 use Rattle.slots.specs.WorkingSlots.{rec}
 use Rattle.slots.specs.Slots.{recs}
@@ -20,11 +19,8 @@ returns c =
     let a = s .args in
     unmarked (recs (a .n) (a .s .now)) (a .last .now) (rec (a .i) (a .s .now)) (sym (mark-at (live (recs (a .n) (a .s .now))) (a .s .now) (a .n) (a .i) (a .marks .now) (s .pre .3) (s .pre .2)) ∙ not-true _ (c .if1 .taken))
 
-header-at-requires : tie.Need-header-at-requires
-header-at-requires c κs = search needs
-
-compare-requires : tie.Need-compare-requires
-compare-requires c κs = search needs
+compare-header-requires : tie.Need-compare-header-requires
+compare-header-requires c κs = search needs
 
 enum-told : tie.Need-enum-told
 enum-told c = search needs
@@ -37,21 +33,21 @@ enum-told-3 c = search needs
 
 returns-2 : tie.Need-returns-2
 returns-2 c =
-    let s = c .before .before .before .before .before .before .before .before in
+    let s = c .before .before .before .before .before .before .before in
     let a = s .args in
-    marked (recs (a .n) (a .s .now)) (a .last .now) (rec (a .i) (a .s .now)) Less (sym (mark-at (live (recs (a .n) (a .s .now))) (a .s .now) (a .n) (a .i) (a .marks .now) (s .pre .3) (s .pre .2)) ∙ not-false _ (c .before .before .before .before .if1 .left)) (sym (c .enum-told .given .1) ∙ c .before .before .compare .ensures ∙ ap (cmp (a .last .now)) (c .before .before .before .header-at .ensures))
+    marked (recs (a .n) (a .s .now)) (a .last .now) (rec (a .i) (a .s .now)) Less (sym (mark-at (live (recs (a .n) (a .s .now))) (a .s .now) (a .n) (a .i) (a .marks .now) (s .pre .3) (s .pre .2)) ∙ not-false _ (c .before .before .before .if1 .left)) (sym (c .enum-told .given .1) ∙ c .before .before .compare-header .ensures)
 
 returns-3 : tie.Need-returns-3
 returns-3 c =
-    let s = c .before .before .before .before .before .before .before .before in
+    let s = c .before .before .before .before .before .before .before in
     let a = s .args in
-    marked (recs (a .n) (a .s .now)) (a .last .now) (rec (a .i) (a .s .now)) Same (sym (mark-at (live (recs (a .n) (a .s .now))) (a .s .now) (a .n) (a .i) (a .marks .now) (s .pre .3) (s .pre .2)) ∙ not-false _ (c .before .before .before .before .if1 .left)) (sym (c .enum-told2 .given .1) ∙ c .before .before .compare .ensures ∙ ap (cmp (a .last .now)) (c .before .before .before .header-at .ensures))
+    marked (recs (a .n) (a .s .now)) (a .last .now) (rec (a .i) (a .s .now)) Same (sym (mark-at (live (recs (a .n) (a .s .now))) (a .s .now) (a .n) (a .i) (a .marks .now) (s .pre .3) (s .pre .2)) ∙ not-false _ (c .before .before .before .if1 .left)) (sym (c .enum-told2 .given .1) ∙ c .before .before .compare-header .ensures)
 
 returns-4 : tie.Need-returns-4
 returns-4 c =
-    let s = c .before .before .before .before .before .before .before .before in
+    let s = c .before .before .before .before .before .before .before in
     let a = s .args in
-    marked (recs (a .n) (a .s .now)) (a .last .now) (rec (a .i) (a .s .now)) More (sym (mark-at (live (recs (a .n) (a .s .now))) (a .s .now) (a .n) (a .i) (a .marks .now) (s .pre .3) (s .pre .2)) ∙ not-false _ (c .before .before .before .before .if1 .left)) (sym (c .enum-told3 .given .1) ∙ c .before .before .compare .ensures ∙ ap (cmp (a .last .now)) (c .before .before .before .header-at .ensures))
+    marked (recs (a .n) (a .s .now)) (a .last .now) (rec (a .i) (a .s .now)) More (sym (mark-at (live (recs (a .n) (a .s .now))) (a .s .now) (a .n) (a .i) (a .marks .now) (s .pre .3) (s .pre .2)) ∙ not-false _ (c .before .before .before .if1 .left)) (sym (c .enum-told3 .given .1) ∙ c .before .before .compare-header .ensures)
 
 pub comes-after-spec : {M : Type 1} → statement M
 comes-after-spec =
@@ -59,8 +55,7 @@ comes-after-spec =
     (tie.spec
     element-copy-out-if1
     returns
-    header-at-requires
-    compare-requires
+    compare-header-requires
     enum-told
     enum-told-2
     enum-told-3

@@ -1,9 +1,10 @@
 -- What is counted and what is left to count make the whole.
+use Rattle.records.specs.Record.{carried}
 use Prim.Native.Nat.{_+_, _-_, _≤_}
 use mathlib.Core.Path.{_≡_}
 use native.Mathlib.Omega.{arith}
 use lib.ListN.{drop}
-use Rattle.ledger.specs.WorkingBoard.{carried, live, countOf}
+use Rattle.ledger.specs.WorkingBoard.{live, countOf}
 use Rattle.slots.specs.WorkingSlots.{rec}
 use Rattle.slots.specs.Slots.{recs}
 use Rattle.board.proofs.Finds.{count-on, count-end}

@@ -12,12 +12,6 @@ use Rattle.board.proofs.Finds.{Standing, stand-start, row-within, stand
 use borrow.Author.Needs.{needs}
 use Rattle.board.proofs.due_rows.Statement.{statement}
 use Rattle.board.proofs.due_rows.Tie as tie
-use Rattle.board.proofs.due_rows.Reads as reads
-use Rattle.board.proofs.due_rows.Lts as lts
-use Rattle.board.proofs.count_alike.Reads as count-alike-reads
-use Rattle.board.proofs.first_after.Reads as first-after-reads
-use Rattle.board.proofs.header_at.Reads as header-at-reads
-use Rattle.board.proofs.live_marks.Reads as live-marks-reads
 
 abbrev Inv-loop : tie.InvT-loop
 Inv-loop s n marks rows₀ k₀ j₀ rows k j = Marks (live (recs n s)) (recs n s) marks × (length rows₀ ≡ 170) × Standing n s rows₀ rows k j
@@ -70,23 +64,20 @@ array-set-from-rows c =
 add-k : tie.Need-add-k Inv-loop μ-loop
 add-k c = omega (arith, room (c .before .before))
 
-header-at-requires : tie.Need-header-at-requires Inv-loop μ-loop
-header-at-requires c κs = omega (arith, room (c .before .before .before), c .before .before .before .before .before .before .before .before .before .before .pre)
-
-first-after-requires-2 : tie.Need-first-after-requires-2 Inv-loop μ-loop
-first-after-requires-2 c κs =
-    let p = c .before .before .before .before .before .before .before .before .before .before .before .pre in
-    (p .0, p .1, c .before .before .before .before .before .loop .inv .0)
+next-after-requires : tie.Need-next-after-requires Inv-loop μ-loop
+next-after-requires c κs =
+    let p = c .before .before .before .before .before .before .before .before .before .before .pre in
+    (p .0, p .1, c .before .before .before .loop-test .taken, c .before .before .before .before .loop .inv .0)
 
 loop-less : tie.Need-loop-less Inv-loop μ-loop
-loop-less c = omega (arith, room (c .before .before .before .before .before))
+loop-less c = omega (arith, room (c .before .before .before .before))
 
 loop-again : tie.Need-loop-again Inv-loop μ-loop
 loop-again c =
-    let l = c .before .before .before .before .before .before .loop in
-    let a = c .before .before .before .before .before .before .before .before .before .before .before .before .args in
-    let count = c .before .before .before .count-alike in
-    (l .inv .0, l .inv .1, stand-next (a .n) (a .s .now) _ (l .rows) (l .k) (l .j) (l .inv .2) (count .result) _ _ (c .before .before .before .before .before .loop-test .taken) (count .ensures .0) (c .before .header-at .ensures) (c .first-after2 .ensures))
+    let l = c .before .before .before .before .before .loop in
+    let a = c .before .before .before .before .before .before .before .before .before .before .before .args in
+    let count = c .before .before .count-alike in
+    (l .inv .0, l .inv .1, stand-next (a .n) (a .s .now) _ (l .rows) (l .k) (l .j) (l .inv .2) (count .result) _ (c .before .before .before .before .loop-test .taken) (count .ensures .0) (c .next-after .ensures))
 
 returns : tie.Need-returns Inv-loop μ-loop
 returns c =
@@ -111,8 +102,7 @@ due-rows-spec =
     mul-rows
     array-set-from-rows
     add-k
-    header-at-requires
-    first-after-requires-2
+    next-after-requires
     loop-less
     loop-again
     returns)

@@ -1,21 +1,16 @@
 -- By the three tests: a notice, its withdrawal not held, the aired record of its header not held.
 use Prim.Native.Nat.{ℕ}
-use mathlib.Core.Path.{_≡_, sym, ap, _∙_}
-use native.Mathlib.Omega.{arith}
+use mathlib.Core.Path.{sym, ap, _∙_}
 use mathlib.Core.List.{List}
-use lib.ListN.{length}
-use Rattle.records.specs.Record.{withdrawal, aired}
+use Rattle.records.specs.Record.{withdrawal}
 use Rattle.ledger.specs.Sorted.{has}
 use Rattle.slots.specs.WorkingSlots.{rec}
 use Rattle.slots.specs.Slots.{recs}
 use Rattle.slots.proofs.Records.{kind-rec}
-use Rattle.board.proofs.Finds.{key-part, header-whole, aired-whole, not-a-notice, is-withdrawn, live-by}
+use Rattle.board.proofs.Finds.{key-part, not-a-notice, is-withdrawn, live-by}
 use borrow.Author.Needs.{needs}
 use Rattle.board.proofs.is_live.Statement.{statement}
 use Rattle.board.proofs.is_live.Tie as tie
-
-header-long : (c : tie.After-header-at) → length (c .header-at .result .now) ≡ 243
-header-long c = ap length (c .header-at .ensures) ∙ header-whole (c .before .before .before .before .before .before .before .before .before .before .before .args .s .now) (c .before .before .before .before .before .before .before .before .before .before .before .args .i) (omega (arith, c .before .before .before .before .before .before .before .before .before .before .before .pre))
 
 mul-at : tie.Need-mul-at
 mul-at c = search needs
@@ -54,23 +49,19 @@ returns-2 c =
     let a = c .before .before .before .before .before .before .before .before .before .before .args in
     is-withdrawn (recs (a .n) (a .s .now)) (rec (a .i) (a .s .now)) (ap (λ (x : List ℕ). has x (recs (a .n) (a .s .now))) (sym (c .before .before .before .before .before .withdrawal-of .ensures ∙ ap withdrawal (key-part (a .s .now) (a .i)))) ∙ sym (c .before .holds .ensures) ∙ c .if2 .taken)
 
-header-at-requires : tie.Need-header-at-requires
-header-at-requires c κs = search needs
-
-aired-requires : tie.Need-aired-requires
-aired-requires c κs = omega (arith, header-long c)
+aired-at-requires : tie.Need-aired-at-requires
+aired-at-requires c κs = search needs
 
 holds-requires-2 : tie.Need-holds-requires-2
 holds-requires-2 c κs = search needs
 
 returns-3 : tie.Need-returns-3
 returns-3 c =
-    let a = c .before .before .before .before .before .before .before .before .before .before .before .before .before .before .before .before .args in
-    let h = c .before .before .before .before .before in
+    let a = c .before .before .before .before .before .before .before .before .before .before .before .before .before .before .before .args in
     live-by (recs (a .n) (a .s .now)) (rec (a .i) (a .s .now)) (c .holds2 .result)
-    (kind-rec (a .s .now) (a .i) ∙ c .before .before .before .before .before .before .before .before .before .before .before .before .before .if1 .left)
-    (ap (λ (x : List ℕ). has x (recs (a .n) (a .s .now))) (sym (c .before .before .before .before .before .before .before .before .before .before .before .withdrawal-of .ensures ∙ ap withdrawal (key-part (a .s .now) (a .i)))) ∙ sym (c .before .before .before .before .before .before .before .holds .ensures) ∙ c .before .before .before .before .before .before .if2 .left)
-    (c .holds2 .ensures ∙ ap (λ (x : List ℕ). has x (recs (a .n) (a .s .now))) (aired-whole (h .header-at .result .now) _ (header-long h) (c .before .before .before .before .aired .ensures) ∙ ap aired (h .header-at .ensures)))
+    (kind-rec (a .s .now) (a .i) ∙ c .before .before .before .before .before .before .before .before .before .before .before .before .if1 .left)
+    (ap (λ (x : List ℕ). has x (recs (a .n) (a .s .now))) (sym (c .before .before .before .before .before .before .before .before .before .before .withdrawal-of .ensures ∙ ap withdrawal (key-part (a .s .now) (a .i)))) ∙ sym (c .before .before .before .before .before .before .holds .ensures) ∙ c .before .before .before .before .before .if2 .left)
+    (c .holds2 .ensures ∙ ap (λ (x : List ℕ). has x (recs (a .n) (a .s .now))) (c .before .before .before .before .aired-at .ensures))
 
 pub is-live-spec : {M : Type 1} → statement M
 is-live-spec =
@@ -87,7 +78,6 @@ is-live-spec =
     withdrawal-of-requires
     holds-requires
     returns-2
-    header-at-requires
-    aired-requires
+    aired-at-requires
     holds-requires-2
     returns-3)

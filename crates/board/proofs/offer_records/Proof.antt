@@ -10,7 +10,7 @@ use Rattle.slots.specs.Slots.{recs}
 use Rattle.board.specs.Rules.{boardOf}
 use Rattle.board.specs.WorkingRules.{boardOk}
 use Rattle.board.specs.WorkingCalls.{Offering}
-use Rattle.board.proofs.Boards.{board-within, kept}
+use Rattle.board.proofs.Boards.{board-within, kept-rules}
 use Rattle.board.proofs.Answers.{offer-bad, filled-sorted, offer-full, offer-taken}
 use borrow.Author.Needs.{needs}
 use Rattle.board.proofs.offer_records.Statement.{statement}
@@ -78,7 +78,7 @@ returns-3 : tie.Need-returns-3
 returns-3 c =
     let f = c .before .before .before .before .before .before .before in
     let o = offer-taken (bytes f) (batch f) (count f) (counted f) (keeps f) (c .before .before .before .before .before .tally .result) _ (c .before .before .add-all .result) (c .before .before .before .before .before .tally .ensures .0) (c .before .before .before .before .if2 .left) (c .before .before .add-all .ensures .0) (c .before .before .add-all .ensures .1) in
-    (sym (ap (λ (x : Offering). x .answer) o), (sym (ap (λ (x : Offering). x .bytes) o), (omega arith, omega (arith, kept (bytes f) (keeps f) .high, c .before .before .before .before .if2 .left))))
+    (sym (ap (λ (x : Offering). x .answer) o), (sym (ap (λ (x : Offering). x .bytes) o), (omega arith, omega (arith, kept-rules (bytes f) (keeps f) .high, c .before .before .before .before .if2 .left))))
 
 pub offer-records-spec : {M : Type 1} → statement M
 offer-records-spec =
