@@ -25,7 +25,7 @@ use Rattle.octets.specs.Order.{cmp, choose}
 use Rattle.octets.proofs.Tests.{every-of, one-fails}
 use Rattle.octets.proofs.Everys.{last-decides}
 use Rattle.records.specs.Record.{kind, key, withdrawal, aired, carried}
-use Rattle.records.proofs.Records.{carried-long}
+use Rattle.records.proofs.Carried.{carried-long}
 use Rattle.ledger.specs.declared.Row.{Row}
 use Rattle.ledger.specs.Sorted.{In, has}
 use Rattle.ledger.specs.WorkingBoard.{unwithdrawn, live, ordered, due, carries, indexOf, countOf, rowOf, rowsOf}

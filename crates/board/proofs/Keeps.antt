@@ -17,7 +17,8 @@ use borrow.Author.Tests.{le-leb, lt-leb}
 use Rattle.octets.specs.Bytes.{pick}
 use Rattle.octets.proofs.Tests.{picked, passed-over}
 use Rattle.records.specs.Record.{kind, carried, aired, recordOk}
-use Rattle.records.proofs.Records.{airs-ok, kind-aired}
+use Rattle.records.proofs.Records.{kind-aired}
+use Rattle.records.proofs.Carried.{airs-ok}
 use Rattle.ledger.specs.Sorted.{In, insert, insertAll}
 use Rattle.ledger.specs.WorkingBoard.{live, due, Due, indexOf, After, handOutOf, handOut}
 use Rattle.ledger.proofs.Sorts.{in-insert, in-insertAll, insert-sorted, insertAll-sorted, insertAll-grows, insert-behind}

@@ -25,8 +25,11 @@ abbrev key : List ℕ
 key = 19 ∷ 76 ∷ 225 ∷ 190 ∷ (bytes "b@c" ++ (replicate 61 0 ++ (bytes "B1" ++ replicate 62 0)))
 
 -- 133 to 375 the header through the dash after JJJHHMM, zero-filled; 376 to 383 zero
+abbrev filledHeader : List ℕ
+filledHeader = bytes "ZCZC-CIV-CEM-024031+0045-0951800-" ++ replicate 210 0
+
 abbrev head : List ℕ
-head = bytes "ZCZC-CIV-CEM-024031+0045-0951800-" ++ (replicate 210 0 ++ replicate 8 0)
+head = filledHeader ++ replicate 8 0
 
 -- kind 1 notice uses all
 pub notice-laid-out : library .offering noneHeld sample ≡ record { answer = record { number = 0; field = 0; added = 1 }; bytes = 1 ∷ (key ++ (head ++ replicate 384 0)) }
@@ -45,7 +48,10 @@ pub none-due : dueHeaders (boardOf cancelled) ≡ []
 unfolding computing
 none-due = refl
 
--- kind 3 aired has only a header
-pub aired-laid-out : library .handing oneHeld ≡ record { answer = record { number = 0; index = 0 }; bytes = 1 ∷ (key ++ (head ++ (3 ∷ (replicate 132 0 ++ head)))) }
+-- kind 3 aired has only a header with its year, 2010 in 376 and 377, high byte first; 378 to 383 zero
+abbrev airedTail : List ℕ
+airedTail = filledHeader ++ (7 ∷ 218 ∷ replicate 6 0)
+
+pub aired-laid-out : library .handing oneHeld ≡ record { answer = record { number = 0; index = 0 }; bytes = 1 ∷ (key ++ (head ++ (3 ∷ (replicate 132 0 ++ airedTail)))) }
 unfolding computing
 aired-laid-out = refl

@@ -21,6 +21,7 @@ pub mod Demand3
 pub mod Opens
 pub mod Samples
 pub mod Layouts
+pub mod Years
 pub mod StandIns
 pub mod Demands
 pub mod Arguments

@@ -3,18 +3,23 @@
 --     all-records, all-shaped            the alerts' records keep their rules, and their fields have their lengths
 --     taken-offer, runs                  an offer of a message, and a run of offers, are those of the alerts
 --     carried-by                         a header that an alert carries and none names is one that a taken message carried
-use Prim.Native.Nat.{ℕ}
+use Prim.Native.Nat.{ℕ, _/_, _%_, _≤_}
 use mathlib.Core.Bool.{Bool, true, false, true≢false}
 use mathlib.Core.Path.{_≡_, refl, sym, ap, ap₂, _∙_, subst}
 use mathlib.Core.Logic.{inl, ⊎-elim, _↔_}
-use mathlib.Core.List.{List, [], _∷_, map}
+use mathlib.Core.List.{List, [], _∷_, _++_, map}
+use native.Mathlib.Omega.{arith}
 use borrow.Author.Tests.{eq-eqb}
 use Rattle.octets.specs.Bytes.{pick}
+use Rattle.clock.specs.Stamp.{stampOf}
+use Rattle.clock.proofs.Times.{instant-low}
+use Rattle.clock.proofs.Stamps.{stamp-fits}
 use Rattle.parts.specs.declared.Body.{Body}
 use Rattle.header.specs.Body.{bodyBytes}
 use Rattle.judgement.specs.WorkingJudged.{judgedOf}
-use Rattle.records.specs.Record.{recordOk, carried, pad, notice}
-use Rattle.records.proofs.Records.{carried-notice}
+use Rattle.records.specs.Record.{sentIn, be2, dated, carried, recordOk, pad, notice}
+use Rattle.records.proofs.Records.{sent-back}
+use Rattle.records.proofs.Carried.{carried-notice}
 use Rattle.ledger.specs.Sorted.{In}
 use Rattle.ledger.specs.WorkingBoard.{Alert, records, Shaped, Carried}
 use Rattle.ledger.proofs.Sorts.{every-in, in-map}
@@ -28,8 +33,8 @@ use Rattle.offers.proofs.Taken.{shaped, records-ok}
 use Rattle.offers.proofs.Offering.{offer-zero}
 use Rattle.told.specs.Values.{passing}
 use Rattle.demands.specs.Calls.{library}
-use Rattle.demands.specs.Message.{isQuiet}
-use Rattle.demands.specs.Board.{ownKey, ownHeader, namedKeys}
+use Rattle.demands.specs.Message.{identifier, sender, sent, sentSeconds, isQuiet}
+use Rattle.demands.specs.Board.{ownKey, ownHeader, ownDated, namedKeys}
 use Rattle.demands.specs.Numbers.{noneApplies, takenRows, isBoard}
 use Rattle.demands.specs.Runs.{afterOffers, NoneFull, Takes, CarriedBy}
 use Rattle.demands.proofs.Messages.{quiet-is, body-is, key-is, names-are}
@@ -126,12 +131,21 @@ module _ (m : List ℕ) (t : Takes m) where
       go true e = (absurd, λ w. absurd (true≢false (sym e ∙ w .0)))
       go false e = (⊎-elim (λ p. (e, sym (p ∙ header-is e))) absurd, λ w. inl (sym (w .1) ∙ sym (header-is e)))
 
--- the header that the notice of its alert carries
-carried-is : (m : List ℕ) → Takes m → isQuiet m ≡ false → carried (notice (alertOf m .own) (zeroFilledHeader (judgedOf m))) ≡ ownHeader m
-carried-is m t q =
-    let sh = shaped m (zero m t) in
-    carried-notice (alertOf m .own) (zeroFilledHeader (judgedOf m)) (sh .own-long) (sh .carried-long (zeroFilledHeader (judgedOf m)) (carries-is m t (zeroFilledHeader (judgedOf m)) .1 (q, sym (header-is m t q))))
-    ∙ header-is m t q
+  sent-back-is : sentIn (alertOf m .own) ≡ sentSeconds m
+  sent-back-is = ap sentIn own-is ∙ sent-back (sentSeconds m) (sender m) (identifier m) (instant-low (sent m))
+
+  -- its header with its year is the one that its notice carries
+  carried-is : isQuiet m ≡ false → carried (notice (alertOf m .own) (zeroFilledHeader (judgedOf m))) ≡ ownDated m
+  unfolding dated
+  carried-is q =
+      let h : List ℕ = zeroFilledHeader (judgedOf m) in
+      let sh = shaped m (zero m t) in
+      carried-notice (alertOf m .own) h (sh .own-long) (sh .carried-long h (carries-is h .1 (q, sym (header-is q))))
+      ∙ ap₂ (λ (x : List ℕ) (n : ℕ). x ++ be2 (stampOf n .year)) (header-is q) sent-back-is
+      ∙ ap (λ (high : ℕ). ownHeader m ++ (high ∷ stampOf (sentSeconds m) .year % 256 ∷ [])) (small (stampOf (sentSeconds m) .year) (stamp-fits (sentSeconds m) (instant-low (sent m)) .last))
+    where
+      small : (y : ℕ) → y ≤ 2099 → y / 256 % 256 ≡ y / 256
+      small y l = omega arith
 
 pub carried-by : (ms : List (List ℕ)) (h : List ℕ) → Carried (alertsOf ms) h ↔ CarriedBy ms h
 carried-by ms h = (to, from)

@@ -1,10 +1,11 @@
 -- What whole messages and boards are computed with: `converting`, and what the demands, an offer and a hand-out are made of. To unfold a name is to unfold all that
 -- its own line names.
 use mathlib.Core.List.{flatMap}
+use Rattle.header.specs.Body.{bodyOf}
 use Rattle.leaves.specs.Leaf.{decoded, leafValue}
-use Rattle.records.specs.Record.{aired, carried, header, headerOk, key, keyOf, keyOk, notice, pad, recordOk, rest, sentIn, stampIn, withdrawal, zeroFilled}
-use Rattle.ledger.specs.WorkingBoard.{carries, due, live, unwithdrawn}
-use Rattle.board.specs.WorkingCalls.{handOf}
+use Rattle.records.specs.Record.{aired, airedIn, behind, carried, dated, header, headerOf, headerOk, key, keyOf, keyOk, notice, pad, recordOk, rest, sentIn, stampIn, withdrawal, yearIn, yearOk, zeroFilled}
+use Rattle.ledger.specs.WorkingBoard.{carries, due, live, rowsOf, unwithdrawn}
+use Rattle.board.specs.WorkingCalls.{handOf, listOf}
 use Rattle.board.specs.WorkingCalls as board-calls
 use Rattle.board.specs.Rules.{boardOf}
 use Rattle.board.specs.WorkingRules.{boardOk, encode}
@@ -20,15 +21,15 @@ unfolding decoded leafValue
 leaves-opens = tt
 
 records-opens : Unit {0}
-unfolding aired carried header headerOk key keyOf keyOk notice pad recordOk rest sentIn stampIn withdrawal zeroFilled
+unfolding bodyOf aired airedIn behind carried dated header headerOf headerOk key keyOf keyOk notice pad recordOk rest sentIn stampIn withdrawal yearIn yearOk zeroFilled
 records-opens = tt
 
 ledger-opens : Unit {0}
-unfolding carries due live unwithdrawn
+unfolding carries due live rowsOf unwithdrawn
 ledger-opens = tt
 
 board-opens : Unit {0}
-unfolding handOf board-calls.offerOf boardOf boardOk encode
+unfolding handOf listOf board-calls.offerOf boardOf boardOk encode
 board-opens = tt
 
 offers-opens : Unit {0}

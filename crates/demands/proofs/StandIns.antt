@@ -1,9 +1,10 @@
--- None of document 01's five stand-ins meets the demand that it names for them: each is rejected at a message or a board that is computed.
+-- None of the stand-ins meets the demand that is named for it: each is rejected at a message or a board that is computed.
 --     always-refuses-rejected         by the table, which has no number for the sample, and by the header that is not given
 --     refuses-in-canada-rejected      the same of the Canadian mode, by the text
 --     one-header-rejected             by the headers of two messages
 --     writes-nothing-rejected, invented-count-rejected    by the count, which is the growth in filled records
 --     nothing-after-first-rejected    by hand-outs that give one of two due headers
+--     forgets-years-rejected          by the table, which has no number for the weekly test of the second year
 -- They are rejected for what they answer and not for how they are written: whatever answers as the library does meets the demands if the library does.
 --     alike, careful-meets
 use Prim.Native.Nat.{ℕ, _+_, min}
@@ -25,10 +26,11 @@ use Rattle.demands.specs.Calls.{Calls, library}
 use Rattle.demands.specs.Message.{isQuiet, wholeOf, wholeInCanada}
 use Rattle.demands.specs.Numbers.{noneApplies, conversionRows}
 use Rattle.demands.specs.Demands.{Demand1, Demand2, Demand3, Demands}
-use Rattle.demands.specs.StandIns.{sample, other, bench, noneHeld, oneHeld, twoDue, headerOf}
-use Rattle.demands.specs.StandIns.{alwaysRefuses, refusesInCanada, oneHeader, writesNothing, inventedCount, nothingAfterFirst, SameAnswers, careful}
+use Rattle.demands.specs.StandIns.{sample, other, bench, noneHeld, oneHeld, twoDue, weeklyDue, datedOf}
+use Rattle.demands.specs.StandIns.{alwaysRefuses, refusesInCanada, oneHeader, writesNothing, inventedCount, nothingAfterFirst, forgetsYears, SameAnswers, careful}
 use Rattle.demands.proofs.Samples.{sample-taken, sample-loud, sample-whole, sample-taken-in-canada, sample-in-canada, other-taken, other-loud, other-header}
 use Rattle.demands.proofs.Samples.{first-offer, second-offer, none-filled, one-filled, two-keeps, two-empty, both-due, only-first}
+use Rattle.demands.proofs.Years.{second-due, vanished}
 
 -- ---- converters
 
@@ -107,10 +109,16 @@ invented-count-rejected count d =
 
 pub nothing-after-first-rejected : Demand3 nothingAfterFirst → ⊥
 nothing-after-first-rejected d =
-    let each : headerOf "CEM" ∷ [] ≡ take (min 2 2) (headerOf "CEM" ∷ (headerOf "TOR" ∷ [])) =
+    let each : datedOf "CEM" ∷ [] ≡ take (min 2 2) (datedOf "CEM" ∷ (datedOf "TOR" ∷ [])) =
     sym only-first ∙ (d .in-order twoDue two-keeps 2 ∙ ap₂ (λ (n : ℕ) (hs : List (List ℕ)). take (min 2 n) hs) two-empty both-due) in
     let c : _≡_ {A = ℕ} 1 2 = ap length each in
     omega (arith, c)
+
+-- the weekly test that vanished
+pub forgets-years-rejected : Demand1 forgetsYears → ⊥
+forgets-years-rejected d =
+    let lowest : _≡_ {A = ℕ} 16 0 = sym vanished ∙ (d .hand-out-numbered weeklyDue .lowest ∙ second-due) in
+    omega (arith, lowest)
 
 -- ---- what answers as the library
 

@@ -1,5 +1,5 @@
 -- "The board": the records that a message leaves, and what is due. b is the filled records of a board, m a message.
-use Prim.Native.Nat.{ℕ, zero, suc}
+use Prim.Native.Nat.{ℕ, zero, suc, _/_, _%_}
 use mathlib.Core.Path.{_≡_}
 use mathlib.Core.Bool.{Bool, false, _&&_, _||_, not}
 use mathlib.Core.List.{List, [], _∷_, _++_, map}
@@ -7,6 +7,7 @@ use lib.ListN.{length}
 use lib.Dec.{eqb}
 use Rattle.octets.specs.Bytes.{pick, same}
 use Rattle.clock.specs.Time.{timeOf, instantIn}
+use Rattle.clock.specs.Stamp.{stampOf}
 use Rattle.header.specs.Body.{bodyBytes}
 use Rattle.fields.specs.References.{senderOf, identifierOf, sentOf, words}
 use Rattle.records.specs.Record.{kind, key, carried, pad, keyOf, notice, withdrawal}
@@ -25,6 +26,10 @@ ownKey m = keyOf (sentSeconds m) (sender m) (identifier m)
 abbrev pub ownHeader : List ℕ → List ℕ
 ownHeader m = pad 243 (bodyBytes (headerBody m))
 
+-- with the UTC year of sent, high byte first
+abbrev pub ownDated : List ℕ → List ℕ
+ownDated m = ownHeader m ++ (stampOf (sentSeconds m) .year / 256 ∷ stampOf (sentSeconds m) .year % 256 ∷ [])
+
 -- the sent, sender and identifier of a group `sender,identifier,sent`
 abbrev pub groupKey : List ℕ → List ℕ
 groupKey w = keyOf (instantIn (timeOf (sentOf w))) (senderOf w) (identifierOf w)
@@ -42,7 +47,7 @@ abbrev pub newTo : List (List ℕ) → List (List ℕ) → List (List ℕ)
 newTo b [] = []
 newTo b (r ∷ rs) = pick (has r b) (newTo b rs) (r ∷ newTo (r ∷ b) rs)
 
--- ---- what is due
+-- ---- what is due. A header is one with its year, 245 bytes: the same only if the UTC year of sent agrees too
 
 abbrev pub some : {A : Type 0} → (A → Bool) → List A → Bool
 some f [] = false
@@ -63,7 +68,7 @@ carriesIt b h n = eqb (kind n) 1 && (not (withdrawn b n) && same (carried n) h)
 abbrev pub makesDue : List (List ℕ) → List ℕ → List ℕ → Bool
 makesDue b h n = carriesIt b h n && not (airedOn b h)
 
--- the due headers, in header order
+-- the due headers, ordered by header, then year
 abbrev pub dueHeaders : List (List ℕ) → List (List ℕ)
 dueHeaders b = insertAll (map carried (passing (λ n. makesDue b (carried n) n) b)) []
 

@@ -59,6 +59,7 @@ pub record Demand2 (c : Calls) : Type 0 where
   pub write-gives-back : (s d : List ℕ) → c .reading s .number ≡ 0 → 252 ≤ length d →
       c .writing d (c .reading s .parts) ≡ record { answer = record { number = 0; len = length s }; bytes = s ++ drop (length s) d }
 
+-- "Header" is throughout a header with its year, 245 bytes.
 pub record Demand3 (c : Calls) : Type 0 where
   -- a board that keeps the rules keeps them, and its length
   pub offer-keeps : (b m : List ℕ) → isBoard b ≡ true → (isBoard (c .offering b m .bytes) ≡ true) × (length (c .offering b m .bytes) ≡ length b)
@@ -71,21 +72,21 @@ pub record Demand3 (c : Calls) : Type 0 where
   -- a hand-out adds the aired record of the first due header, and returns the index of the smallest notice that makes it due
   pub hand-out-adds : (b : List ℕ) → c .handing b .answer .number ≡ 0 → boardOf (c .handing b .bytes) ≡ insert (aired (firstValue (dueHeaders (boardOf b)))) (boardOf b)
   pub hand-out-index : (b : List ℕ) → c .handing b .answer .number ≡ 0 → c .handing b .answer .index ≡ firstIndex (makesDue (boardOf b) (firstValue (dueHeaders (boardOf b)))) (boardOf b)
-  -- the list gives one row per due header, in header order, and returns their number
+  -- the list gives one row per due header, ordered by header, then year, and returns their number
   pub list-rows : (b : List ℕ) (rows : ℕ) → c .listing b rows .answer .number ≡ 0 →
       (c .listing b rows .rows ≡ map (rowOf (boardOf b)) (dueHeaders (boardOf b))) × (c .listing b rows .answer .count ≡ length (dueHeaders (boardOf b)))
-  -- a header on a board is the conversion's without its station
+  -- a header on a board, without its year, is the conversion's without its station
   pub on-board : (s station : List ℕ) (h t u : ℕ) → noneApplies (conversionRows s station h t u) ≡ true → isQuiet s ≡ false →
       (front : List ℕ) × (ownHeader s ≡ pad 243 front) × (c .conversion s station h t u .given .header ≡ front ++ (station ++ (45 ∷ [])))
   -- Offer the same alerts to two empty boards, each in its own order, each alert once or more, with no hand-out between and no offer refused for room. The filled
   -- records are then equal byte by byte.
   pub same-records : (b b′ : List ℕ) → Empty b → Empty b′ → (ms ms′ : List (List ℕ)) → ((m : List ℕ) → In m ms → In m ms′) → ((m : List ℕ) → In m ms′ → In m ms) →
       NoneFull c ms b → NoneFull c ms′ b′ → boardOf (afterOffers c ms b) ≡ boardOf (afterOffers c ms′ b′)
-  -- A header is then due exactly if a taken message carried it whose sender, identifier and time no taken Update or Cancel names.
+  -- A header with its year is then due exactly if a taken message carried it whose sender, identifier and time no taken Update or Cancel names.
   pub due-exactly : (b : List ℕ) → Empty b → (ms : List (List ℕ)) → NoneFull c ms b → (h : List ℕ) → In h (dueHeaders (boardOf (afterOffers c ms b))) ↔ CarriedBy ms h
-  -- Hand-outs, while there is room, then give each due header once, in byte order.
+  -- Hand-outs, while there is room, then give each due header with its year once, in byte order.
   pub in-order : (b : List ℕ) → isBoard b ≡ true → (n : ℕ) → handOuts c n b ≡ take (min n (emptiesIn b)) (dueHeaders (boardOf b))
-  -- Over any mixture of offers and hand-outs on a board that began empty, no header is handed out twice.
+  -- Over any mixture of offers and hand-outs on a board that began empty, no header with its year is handed out twice.
   pub never-twice : (b : List ℕ) → Empty b → (cs : List BoardCall) → Once (handedOut c cs b)
 
 pub record Demands (c : Calls) : Type 0 where

@@ -1,4 +1,4 @@
--- Messages offered to one board, and hand-outs of it, one after the other. A message is its bytes, and so is a board; c are the calls.
+-- Messages offered to one board, and hand-outs of it, one after the other. A message is its bytes, and so is a board; c are the calls. A header is one with its year.
 use Prim.Native.Nat.{ℕ, zero, suc}
 use mathlib.Core.Path.{_≡_}
 use mathlib.Core.Bool.{true, false}
@@ -11,7 +11,7 @@ use Rattle.ledger.specs.Sorted.{In}
 use Rattle.board.specs.Rules.{boardOf}
 use Rattle.demands.specs.Calls.{Calls}
 use Rattle.demands.specs.Message.{isQuiet}
-use Rattle.demands.specs.Board.{ownKey, ownHeader, namedKeys}
+use Rattle.demands.specs.Board.{ownKey, ownDated, namedKeys}
 use Rattle.demands.specs.Numbers.{noneApplies, takenRows, isBoard}
 
 -- an empty board
@@ -39,7 +39,7 @@ pub record CarriedBy (ms : List (List ℕ)) (h : List ℕ) : Type 0 where
   pub offered : In by ms
   pub taken : Takes by
   pub not-quiet : isQuiet by ≡ false
-  pub carries : ownHeader by ≡ h
+  pub carries : ownDated by ≡ h
   pub not-named : (m : List ℕ) → In m ms → Takes m → In (ownKey by) (namedKeys m) → ⊥
 
 -- ---- hand-outs

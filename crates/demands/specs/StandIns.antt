@@ -1,14 +1,15 @@
 -- Stand-ins for the library's calls. Document 01, "Holding a promise to its result", has five rejected: a converter that always refuses, or always gives one
 -- header; an offer that writes nothing, or returns an invented added count; a hand-out that gives the first header and ever after says nothing is due. A Canadian
--- mode that always refuses is rejected too. Each is the library but for one call. The last answers as the library does and is written otherwise. Before them,
--- the messages and boards on which they are tried.
+-- mode that always refuses is rejected too, and a hand-out that forgets the year of a header. Each is the library but for one call. The last answers as the library
+-- does and is written otherwise. Before them, the messages and boards on which they are tried.
 use Prim.Native.Nat.{ℕ}
 use Prim.Native.String.{String}
 use mathlib.Core.Path.{_≡_}
+use mathlib.Core.Bool.{_&&_}
 use mathlib.Core.List.{List, [], _∷_, _++_}
 use lib.Dec.{eqb}
-use lib.ListN.{length, take, replicate}
-use Rattle.octets.specs.Bytes.{pick}
+use lib.ListN.{length, take, getD, replicate}
+use Rattle.octets.specs.Bytes.{pick, same}
 use Rattle.octets.specs.Text.{bytes}
 use Rattle.parts.specs.declared.Parts.{Parts}
 use Rattle.told.specs.Values.{isNone}
@@ -16,7 +17,7 @@ use Rattle.outputs.specs.Outputs.{TextOutcome}
 use Rattle.outputs.specs.WorkingOutputs.{textRefused}
 use Rattle.convert.specs.Convert.{Given, Outcome, nothing}
 use Rattle.convert.specs.WorkingConvert.{refusedWith}
-use Rattle.records.specs.Record.{kind, pad, keyOf, notice}
+use Rattle.records.specs.Record.{kind, header, pad, keyOf, notice}
 use Rattle.board.specs.Rules.{boardOf}
 use Rattle.board.specs.WorkingRules.{encode}
 use Rattle.board.specs.Calls.{Handing}
@@ -27,27 +28,35 @@ use Rattle.demands.specs.Board.{some}
 
 -- ---- messages and boards
 
--- the message under "Figures to hold", for this event
-abbrev pub sampleFor : String → List ℕ
-sampleFor event =
-    bytes "<alert xmlns=\"urn:oasis:names:tc:emergency:cap:1.2\"><identifier>B1</identifier><sender>b@c</sender><sent>2010-04-05T14:00:30-04:00</sent>"
+-- the message under "Figures to hold", sent on this day, for this event
+abbrev pub sampleOn : String → String → List ℕ
+sampleOn day event =
+    bytes "<alert xmlns=\"urn:oasis:names:tc:emergency:cap:1.2\"><identifier>B1</identifier><sender>b@c</sender><sent>"
+    ++ (bytes day
+    ++ (bytes "T14:00:30-04:00</sent>"
     ++ (bytes "<status>Actual</status><msgType>Alert</msgType><scope>Public</scope><info><eventCode><valueName>SAME</valueName><value>"
     ++ (bytes event
-    ++ (bytes "</value></eventCode><expires>2010-04-05T14:45:30-04:00</expires><senderName>County Bench</senderName>"
+    ++ (bytes "</value></eventCode><expires>"
+    ++ (bytes day
+    ++ (bytes "T14:45:30-04:00</expires><senderName>County Bench</senderName>"
     ++ (bytes "<description>Water main broken.</description><instruction>Boil water.</instruction>"
-    ++ bytes "<area><geocode><valueName>SAME</valueName><value>024031</value></geocode></area></info></alert>"))))
+    ++ bytes "<area><geocode><valueName>SAME</valueName><value>024031</value></geocode></area></info></alert>"))))))))
 
 -- as it stands there
 abbrev pub sample : List ℕ
-sample = sampleFor "CEM"
+sample = sampleOn "2010-04-05" "CEM"
 
 -- and with another event
 abbrev pub other : List ℕ
-other = sampleFor "TOR"
+other = sampleOn "2010-04-05" "TOR"
 
 -- the header of such a message on a board, and its notice: sent 323,805,630 seconds after 2000 began
 abbrev pub headerOf : String → List ℕ
 headerOf event = pad 243 (bytes "ZCZC-CIV-" ++ (bytes event ++ bytes "-024031+0045-0951800-"))
+
+-- with its year, 2010
+abbrev pub datedOf : String → List ℕ
+datedOf event = headerOf event ++ (7 ∷ 218 ∷ [])
 
 abbrev pub noticeOf : String → List ℕ
 noticeOf event = notice (keyOf 323805630 (bytes "b@c") (bytes "B1")) (headerOf event)
@@ -67,6 +76,31 @@ oneHeld = encode 768 (noticeOf "CEM" ∷ [])
 -- a board of four records with the notices of both messages: two headers are due, and there is room to hand out both
 abbrev pub twoDue : List ℕ
 twoDue = encode 1536 (noticeOf "CEM" ∷ (noticeOf "TOR" ∷ []))
+
+-- the Required Weekly Test of day 065, of two years
+abbrev pub weekly2010 : List ℕ
+weekly2010 = sampleOn "2010-03-06" "RWT"
+
+abbrev pub weekly2011 : List ℕ
+weekly2011 = sampleOn "2011-03-06" "RWT"
+
+-- their one header on a board, and with the year of which these are the bytes: 2010 is 7 and 218, 2011 is 7 and 219
+abbrev pub weeklyHeader : List ℕ
+weeklyHeader = bytes "ZCZC-CIV-RWT-024031+0045-0651800-" ++ replicate 210 0
+
+abbrev pub weeklyIn : ℕ → ℕ → List ℕ
+weeklyIn high low = weeklyHeader ++ (high ∷ low ∷ [])
+
+-- the notice of one sent so many seconds after 2000 began, and the aired record with a year
+abbrev pub weeklyNotice : ℕ → List ℕ
+weeklyNotice sent = notice (keyOf sent (bytes "b@c") (bytes "B1")) weeklyHeader
+
+abbrev pub weeklyAired : ℕ → ℕ → List ℕ
+weeklyAired high low = 3 ∷ (replicate 132 0 ++ (weeklyIn high low ++ replicate 6 0))
+
+-- a board of four records with both notices, of which that of 2010 was handed out
+abbrev pub weeklyDue : List ℕ
+weeklyDue = encode 1536 (weeklyNotice 321213630 ∷ weeklyNotice 352749630 ∷ weeklyAired 7 218 ∷ [])
 
 -- ---- those that are rejected
 
@@ -150,6 +184,12 @@ inventedCount count = offeringBy (λ b s.
 -- where an aired record stands on the board, nothing is due any more
 abbrev pub nothingAfterFirst : Calls
 nothingAfterFirst = handingBy (λ b. pick (some (λ r. eqb (kind r) 3) (boardOf b)) (handRefused 16 b) (library .handing b))
+
+-- where the header that would be handed out was aired in any year, nothing is due
+abbrev pub forgetsYears : Calls
+forgetsYears = handingBy (λ b.
+    let given = header (getD (boardOf b) (library .handing b .answer .index) []) in
+    pick (some (λ r. eqb (kind r) 3 && same (header r) given) (boardOf b)) (handRefused 16 b) (library .handing b))
 
 -- ---- the last
 

@@ -21,7 +21,7 @@ use Rattle.ledger.proofs.Sorts.{in-insert, in-insertAll, in-append, in-
 use Rattle.ledger.proofs.Dues.{in-due}
 
 -- a notice of a header that it carries, or a withdrawal of what it names
-pub in-records : (y : List ℕ) (a : Alert) → In y (records a) ↔ (((h : List ℕ) × In h (a .carries) × (y ≡ notice (a .own) h)) ⊎ ((k : List ℕ) × In k (a .names) × (y ≡ withdrawal k)))
+in-records : (y : List ℕ) (a : Alert) → In y (records a) ↔ (((h : List ℕ) × In h (a .carries) × (y ≡ notice (a .own) h)) ⊎ ((k : List ℕ) × In k (a .names) × (y ≡ withdrawal k)))
 in-records y a = (
   λ m. ⊎-elim (λ k. inl (in-map (notice (a .own)) y (a .carries) .0 k)) (λ k. inr (in-map withdrawal y (a .names) .0 k)) (in-append y (map (notice (a .own)) (a .carries)) (map withdrawal (a .names)) .0 m),
   ⊎-elim (λ w. in-append y (map (notice (a .own)) (a .carries)) (map withdrawal (a .names)) .1 (inl (in-map (notice (a .own)) y (a .carries) .1 w)))

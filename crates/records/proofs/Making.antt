@@ -6,7 +6,8 @@ use native.Mathlib.Omega.{arith}
 use lib.ListN.{length, take, drop, set, replicate, length-append, length-replicate, replicate-append-replicate}
 use lib.Seq.{sets, sets-eq, take-at, drop-at, drop-drop}
 use Rattle.octets.proofs.Parts.{drop-zeros}
-use Rattle.records.specs.Record.{pad, be4, keyOf, notice, withdrawal, aired}
+use Rattle.clock.specs.Stamp.{stampOf}
+use Rattle.records.specs.Record.{sentIn, be2, dated, pad, be4, keyOf, notice, withdrawal, aired}
 use Rattle.records.proofs.ZeroFill.{pad-long, pad-whole}
 use Rattle.records.proofs.Records.{key-of-long}
 
@@ -70,12 +71,24 @@ pub withdrawal-put : (k x : List ℕ) → length k ≡ 132 → x ≡ sets (fresh
 withdrawal-put k x l px =
     field-put (2 ∷ []) (fresh 2) x k 1 383 132 refl refl (omega arith) (omega arith) px ∙ ap (λ (w : List ℕ). (2 ∷ w) ++ replicate 251 0) (pad-whole 132 k l) ∙ withdrawal-made k
 
-pub aired-made : (g x : List ℕ) → length g ≡ 243 → x ≡ sets (fresh 3) 133 g → x ≡ aired g
+pub aired-made : (g x : List ℕ) → length g ≡ 245 → x ≡ sets (fresh 3) 133 g → x ≡ aired g
 unfolding aired
 aired-made g x l px =
-    field-put (3 ∷ replicate 132 0) (fresh 3) x g 133 251 243 (ap (λ (w : List ℕ). 3 ∷ w) (sym (replicate-append-replicate 132 251 0))) (ap suc (length-replicate {A = ℕ} 132 0)) (omega arith) (omega arith) px
-    ∙ ap (λ (w : List ℕ). ((3 ∷ replicate 132 0) ++ w) ++ replicate 8 0) (pad-whole 243 g l)
-    ∙ append-assoc (3 ∷ replicate 132 0) g (replicate 8 0)
+    field-put (3 ∷ replicate 132 0) (fresh 3) x g 133 251 245 (ap (λ (w : List ℕ). 3 ∷ w) (sym (replicate-append-replicate 132 251 0))) (ap suc (length-replicate {A = ℕ} 132 0)) (omega arith) (omega arith) px
+    ∙ ap (λ (w : List ℕ). ((3 ∷ replicate 132 0) ++ w) ++ replicate 6 0) (pad-whole 245 g l)
+    ∙ append-assoc (3 ∷ replicate 132 0) g (replicate 6 0)
 
-pub copy-made : (h x : List ℕ) → length h ≡ 243 → x ≡ sets (replicate 243 0) 0 h → x ≡ h
-copy-made h x l px = laid 243 h x (omega arith) px ∙ pad-whole 243 h l
+-- ---- a header with its year
+
+pub copy-made : (h x : List ℕ) → length h ≡ 245 → x ≡ sets (replicate 245 0) 0 h → x ≡ h
+copy-made h x l px = laid 245 h x (omega arith) px ∙ pad-whole 245 h l
+
+pub dated-made : (k h y x z : List ℕ) → length h ≡ 243 → y ≡ be2 (stampOf (sentIn k) .year) → x ≡ sets (replicate 245 0) 0 h → z ≡ sets x 243 y → z ≡ dated k h
+unfolding dated
+dated-made k h y x z l ey px pz =
+    field-put h x z (be2 (stampOf (sentIn k) .year)) 243 2 2 x-is l (omega arith) (omega arith) (pz ∙ ap (sets x 243) ey)
+    ∙ append-nil (h ++ pad 2 (be2 (stampOf (sentIn k) .year)))
+    ∙ ap (λ (w : List ℕ). h ++ w) (pad-whole 2 (be2 (stampOf (sentIn k) .year)) refl)
+  where
+    x-is : x ≡ h ++ replicate 2 0
+    x-is = field-put [] (replicate 245 0) x h 0 245 243 refl refl (omega arith) (omega arith) px ∙ ap (λ (w : List ℕ). w ++ replicate 2 0) (pad-whole 243 h l)

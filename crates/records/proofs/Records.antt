@@ -2,8 +2,7 @@
 --     record-long, record-kind        384 bytes, of kind 1, 2 or 3
 --     key-notice, header-notice, ..   what a maker was given stands in its field
 --     notice-ok, withdrawal-ok        parts that keep their rules make records that keep theirs
---     carried-long, carried-notice    the header that a record carries
---     airs-ok                         the aired record of a notice's keeps its rules
+--     made-aired                      and so does a header with its year
 use Prim.Native.Nat.{ℕ, _≤_, _<_}
 use mathlib.Core.Bool.{Bool, true, false, true≢false}
 use mathlib.Core.List.{List, [], _∷_, _++_, append-cancel-left, append-cancel-right, tail-eq-of-cons-eq}
@@ -12,7 +11,7 @@ use native.Mathlib.Omega.{arith}
 use borrow.Author.Tests.{eqb-true, eq-eqb, lt-ltb, ltb-true}
 use lib.Dec.{eqb}
 use lib.ListN.{length, take, drop, replicate, length-append, length-replicate}
-use lib.Seq.{take-at, drop-at, take-all}
+use lib.Seq.{take-at, drop-at, take-all, take-append-le}
 use Rattle.octets.specs.Bytes.{every, holds, part, same}
 use Rattle.octets.proofs.Tests.{never, Each, each-of, every-of}
 use Rattle.octets.proofs.Everys.{last-decides}
@@ -24,7 +23,7 @@ use Rattle.header.specs.Body.{timesPart, bodyForm}
 use Rattle.header.proofs.Reading.{body-long}
 use Rattle.fields.specs.Fields.{identityOk}
 use Rattle.fields.proofs.Identities.{identity-short}
-use Rattle.records.specs.Record.{kind, key, sentIn, senderIn, identifierIn, header, rest, carried, zeros, zeroFilled, keyTests, keyOk, headerOk, stampIn, noticeTests, kindTests, recordTests, recordOk, pad, keyOf, notice, withdrawal, aired}
+use Rattle.records.specs.Record.{kind, key, sentIn, senderIn, identifierIn, header, rest, airedIn, behind, headerOf, zeros, zeroFilled, keyTests, keyOk, headerOk, stampIn, yearOk, noticeTests, kindTests, recordTests, recordOk, pad, keyOf, notice, withdrawal, aired}
 use Rattle.records.proofs.ZeroFill.{zeros-made, pad-long, filled-pad, filled-ok, identity-full, body-full}
 
 -- ---- what a record keeps
@@ -123,27 +122,31 @@ module _ (k : List ℕ) (lk : length k ≡ 132) where
   unfolding withdrawal
   withdrawal-long = omega (arith, length-append k (replicate {A = ℕ} 251 0), length-replicate {A = ℕ} 251 0)
 
-module _ (h : List ℕ) (lh : length h ≡ 243) where
-  key-aired : key (aired h) ≡ replicate 132 0
+module _ (g : List ℕ) (lg : length g ≡ 245) where
+  key-aired : key (aired g) ≡ replicate 132 0
   unfolding key aired
-  key-aired = take-at (replicate 132 0) (h ++ replicate 8 0) 132 (length-replicate {A = ℕ} 132 0)
+  key-aired = take-at (replicate 132 0) (g ++ replicate 6 0) 132 (length-replicate {A = ℕ} 132 0)
 
-  pub header-aired : header (aired h) ≡ h
-  unfolding header aired
-  header-aired = ap (take 243) (drop-at (replicate 132 0) (h ++ replicate 8 0) 132 (length-replicate {A = ℕ} 132 0)) ∙ take-at h (replicate 8 0) 243 lh
+  aired-in : airedIn (aired g) ≡ g
+  unfolding airedIn aired
+  aired-in = ap (take 245) (drop-at (replicate 132 0) (g ++ replicate 6 0) 132 (length-replicate {A = ℕ} 132 0)) ∙ take-at g (replicate 6 0) 245 lg
 
-  rest-aired : rest (aired h) ≡ replicate 8 0
-  unfolding rest aired
-  rest-aired =
-      ap (take 8) (sym (lib.Seq.drop-drop 243 132 (replicate 132 0 ++ (h ++ replicate 8 0))) ∙ ap (drop 243) (drop-at (replicate 132 0) (h ++ replicate 8 0) 132 (length-replicate {A = ℕ} 132 0)) ∙ drop-at h (replicate 8 0) 243 lh)
+  header-aired : header (aired g) ≡ headerOf g
+  unfolding header headerOf aired
+  header-aired = ap (take 243) (drop-at (replicate 132 0) (g ++ replicate 6 0) 132 (length-replicate {A = ℕ} 132 0)) ∙ take-append-le 243 g (replicate 6 0) (omega arith)
 
-  aired-long : length (aired h) ≡ 384
+  behind-aired : behind (aired g) ≡ replicate 6 0
+  unfolding behind aired
+  behind-aired =
+      ap (take 6) (sym (lib.Seq.drop-drop 245 132 (replicate 132 0 ++ (g ++ replicate 6 0))) ∙ ap (drop 245) (drop-at (replicate 132 0) (g ++ replicate 6 0) 132 (length-replicate {A = ℕ} 132 0)) ∙ drop-at g (replicate 6 0) 245 lg)
+
+  aired-long : length (aired g) ≡ 384
   unfolding aired
-  aired-long = omega (arith, length-append (replicate 132 0) (h ++ replicate 8 0), length-replicate {A = ℕ} 132 0, length-append h (replicate {A = ℕ} 8 0), length-replicate {A = ℕ} 8 0)
+  aired-long = omega (arith, length-append (replicate 132 0) (g ++ replicate 6 0), length-replicate {A = ℕ} 132 0, length-append g (replicate {A = ℕ} 6 0), length-replicate {A = ℕ} 6 0)
 
 pub aired-inj : (g h : List ℕ) → aired g ≡ aired h → g ≡ h
 unfolding aired
-aired-inj g h e = append-cancel-right g h (replicate 8 0) (append-cancel-left (replicate 132 0) (g ++ replicate 8 0) (h ++ replicate 8 0) (tail-eq-of-cons-eq e))
+aired-inj g h e = append-cancel-right g h (replicate 6 0) (append-cancel-left (replicate 132 0) (g ++ replicate 6 0) (h ++ replicate 6 0) (tail-eq-of-cons-eq e))
 
 pub withdrawal-inj : (j k : List ℕ) → withdrawal j ≡ withdrawal k → j ≡ k
 unfolding withdrawal
@@ -170,35 +173,17 @@ withdraws-ok k l ok =
     record-ok (withdrawal k) 2 (withdrawal-long k l) (kind-withdrawal k)
     (ap keyOk (key-withdrawal k l) ∙ ok, (ap zeros (header-withdrawal k l) ∙ zeros-made 243, (ap zeros (rest-withdrawal k l) ∙ zeros-made 8, tt)))
 
-made-aired : (h : List ℕ) → length h ≡ 243 → headerOk h ≡ true → recordOk (aired h) ≡ true
-made-aired h l ok =
-    record-ok (aired h) 3 (aired-long h l) (kind-aired h)
-    (ap zeros (key-aired h l) ∙ zeros-made 132, (ap headerOk (header-aired h l) ∙ ok, (ap zeros (rest-aired h l) ∙ zeros-made 8, tt)))
-
--- ---- the header that a record carries
-
-pub carried-long : (r : List ℕ) → length r ≡ 384 → length (carried r) ≡ 243
-unfolding carried
-carried-long r l = header-long r l
-
-pub carried-notice : (k h : List ℕ) → length k ≡ 132 → length h ≡ 243 → carried (notice k h) ≡ h
-unfolding carried
-carried-notice k h lk lh = header-notice k h lk lh
-
-pub carried-aired : (h : List ℕ) → length h ≡ 243 → carried (aired h) ≡ h
-unfolding carried
-carried-aired h l = header-aired h l
-
-pub airs-ok : (r : List ℕ) → recordOk r ≡ true → kind r ≡ 1 → recordOk (aired (carried r)) ≡ true
-unfolding carried
-airs-ok r h e = made-aired (carried r) (carried-long r (record-long r h)) (of-notice r h e .1 .0)
+pub made-aired : (g : List ℕ) → length g ≡ 245 → headerOk (headerOf g) ≡ true → yearOk g ≡ true → recordOk (aired g) ≡ true
+made-aired g l ok y =
+    record-ok (aired g) 3 (aired-long g l) (kind-aired g)
+    (ap zeros (key-aired g l) ∙ zeros-made 132, (ap headerOk (header-aired g l) ∙ ok, (ap yearOk (aired-in g l) ∙ y, (ap zeros (behind-aired g l) ∙ zeros-made 6, tt))))
 
 module _ (sent : ℕ) (sender identifier : List ℕ) where
   pub key-of-long : length sender ≤ 64 → length identifier ≤ 64 → length (keyOf sent sender identifier) ≡ 132
   unfolding keyOf
   key-of-long h k = omega (arith, length-append (pad 64 sender) (pad 64 identifier), pad-long 64 sender h, pad-long 64 identifier k)
 
-  sent-back : sent < span → sentIn (keyOf sent sender identifier) ≡ sent
+  pub sent-back : sent < span → sentIn (keyOf sent sender identifier) ≡ sent
   unfolding sentIn keyOf
   sent-back h = omega arith
 

@@ -62,7 +62,7 @@ module _ (v : List ℕ) (sent : ℕ) (ok : bodyForm v ≡ true) (inside : sent <
   stamp-same d h m = ap (λ (x : List ℕ). same x (stamped sent)) (stamp-read v ok ∙ (λ i. jjjhhmm (d i) (h i) (m i))) ∙ same-refl (stamped sent)
 
   -- and there only
-  stamp-told : same (part (timesPart v) 6 7) (stamped sent) ≡ true → (bodyOf v .day ≡ stampOf sent .day) × (bodyOf v .hour ≡ stampOf sent .hour) × (bodyOf v .minute ≡ stampOf sent .minute)
+  pub stamp-told : same (part (timesPart v) 6 7) (stamped sent) ≡ true → (bodyOf v .day ≡ stampOf sent .day) × (bodyOf v .hour ≡ stampOf sent .hour) × (bodyOf v .minute ≡ stampOf sent .minute)
   stamp-told e =
       let b = has (bodyOf v) (body-ok v ok) in
       let s = stamp-fits sent inside in

@@ -1,15 +1,16 @@
 -- One record of the board: its fields, its three kinds, and the rules that it keeps. r is the bytes of a record, k a key (sent, sender and identifier, 132 bytes),
--- h a header through the dash after JJJHHMM, zero-filled to 243 bytes.
+-- h a header through the dash after JJJHHMM, zero-filled to 243 bytes, g a header with its year, 245 bytes.
 use Prim.Native.Nat.{ℕ, _+_, _-_, _*_, _/_, _%_}
 use mathlib.Core.Bool.{Bool, false}
 use mathlib.Core.List.{List, [], _∷_, _++_}
-use lib.ListN.{length, drop, getD, replicate}
-use lib.Dec.{eqb, ltb}
-use Rattle.octets.specs.Bytes.{pick, every, holds, byteAt, part, same}
+use lib.ListN.{length, take, drop, getD, replicate}
+use lib.Dec.{eqb, leb, ltb}
+use Rattle.octets.specs.Bytes.{pick, every, holds, between, byteAt, part, same}
+use Rattle.clock.specs.Calendar.{yearDays}
 use Rattle.clock.specs.Time.{span}
-use Rattle.clock.specs.Stamp.{stamped}
+use Rattle.clock.specs.Stamp.{stampOf, stamped}
 use Rattle.parts.specs.Parts.{isZero}
-use Rattle.header.specs.Body.{timesPart, bodyForm, bodyRefusal, readBodyOf}
+use Rattle.header.specs.Body.{timesPart, bodyForm, bodyOf, bodyRefusal, readBodyOf}
 use Rattle.header.specs.declared.BodyRead.{BodyRead}
 use Rattle.fields.specs.Fields.{identityOk}
 use Rattle.fields.specs.References.{upTo}
@@ -44,9 +45,35 @@ header r = part r 133 243
 unfoldable pub rest : List ℕ → List ℕ
 rest r = part r 376 8
 
--- the header that a notice or an aired record carries: by it headers are the same, and are put in order
+-- 133 to 377 of an aired record: its header with its year
+unfoldable pub airedIn : List ℕ → List ℕ
+airedIn r = part r 133 245
+
+-- and 378 to 383, which stay zero
+unfoldable pub behind : List ℕ → List ℕ
+behind r = part r 378 6
+
+-- ---- a header with its year
+
+-- the header
+unfoldable pub headerOf : List ℕ → List ℕ
+headerOf g = take 243 g
+
+-- the year, high byte first
+unfoldable pub yearIn : List ℕ → ℕ
+yearIn g = byteAt g 243 * 256 + byteAt g 244
+
+abbrev pub be2 : ℕ → List ℕ
+be2 n = n / 256 % 256 ∷ n % 256 ∷ []
+
+-- the header h of a message with the key k, with the UTC year of its sent
+unfoldable pub dated : List ℕ → List ℕ → List ℕ
+dated k h = h ++ be2 (stampOf (sentIn k) .year)
+
+-- the header with its year that a notice or an aired record carries: two headers are the same only if the UTC year of sent agrees too; they are ordered by header,
+-- then year
 unfoldable pub carried : List ℕ → List ℕ
-carried r = header r
+carried r = pick (eqb (kind r) 1) (dated (key r) (header r)) (airedIn r)
 
 -- ---- the rules of a field
 
@@ -83,6 +110,13 @@ readIn h = pick (zeros (drop (length (filledIn h)) h)) (readBodyOf (filledIn h))
 unfoldable pub stampIn : List ℕ → List ℕ
 stampIn h = part (timesPart (filledIn h)) 6 7
 
+-- a year of 2000 to 2099 that has the header's day
+abbrev pub yearTests : List ℕ → List Bool
+yearTests g = between 2000 2099 (yearIn g) ∷ leb (bodyOf (filledIn (headerOf g)) .day) (yearDays (yearIn g)) ∷ []
+
+unfoldable pub yearOk : List ℕ → Bool
+yearOk g = every holds (yearTests g)
+
 -- ---- the rules of a record
 
 -- kind 1 notice uses all, and its JJJHHMM is that of sent
@@ -93,9 +127,9 @@ noticeTests r = keyOk (key r) ∷ headerOk (header r) ∷ same (stampIn (header 
 abbrev pub withdrawalTests : List ℕ → List Bool
 withdrawalTests r = keyOk (key r) ∷ zeros (header r) ∷ zeros (rest r) ∷ []
 
--- kind 3 aired has only a header
+-- kind 3 aired has only a header with its year
 abbrev pub airedTests : List ℕ → List Bool
-airedTests r = zeros (key r) ∷ headerOk (header r) ∷ zeros (rest r) ∷ []
+airedTests r = zeros (key r) ∷ headerOk (header r) ∷ yearOk (airedIn r) ∷ zeros (behind r) ∷ []
 
 -- the tests of a kind; there is no other
 abbrev pub kindTests : ℕ → List ℕ → List Bool
@@ -127,5 +161,6 @@ notice k h = 1 ∷ (k ++ (h ++ replicate 8 0))
 unfoldable pub withdrawal : List ℕ → List ℕ
 withdrawal k = 2 ∷ (k ++ replicate 251 0)
 
+-- of a header with its year
 unfoldable pub aired : List ℕ → List ℕ
-aired h = 3 ∷ (replicate 132 0 ++ (h ++ replicate 8 0))
+aired g = 3 ∷ (replicate 132 0 ++ (g ++ replicate 6 0))

@@ -5,12 +5,13 @@ ghost use mathlib.Core.Path.{_≡_};
 ghost use mathlib.Core.List.{[], _∷_, _++_};
 ghost use Prim.Native.Nat.{_≤_, _<_};
 ghost use lib.ListN.{length, replicate};
-ghost use lib.Dec.{eqb};
+ghost use lib.Dec.{eqb, leb};
 ghost use Rattle.octets.specs.Bytes.{every, holds, same};
+ghost use Rattle.clock.specs.Calendar.{yearDays};
 ghost use Rattle.clock.specs.Time.{span};
 ghost use Rattle.clock.specs.Stamp.{stampOf, stamped};
 ghost use Rattle.fields.specs.Fields.{identityOk};
-ghost use Rattle.records.specs.Record.{sentIn, zeros, filledIn, zeroFilled, keyOk, headerOk, readIn, stampIn, noticeTests, withdrawalTests, airedTests, recordOk, pad, be4, keyOf, notice, withdrawal, aired, carried};
+ghost use Rattle.records.specs.Record.{sentIn, zeros, filledIn, zeroFilled, keyOk, headerOk, readIn, stampIn, noticeTests, withdrawalTests, airedTests, recordOk, pad, be4, keyOf, notice, withdrawal, aired, headerOf, yearIn, be2, dated, carried, yearOk};
 
 pub struct Record {
     pub bytes: [u8; Record::SIZE],
@@ -32,8 +33,13 @@ impl Record {
 
     pub const ZEROS: usize = 376;
 
-    // The bytes of the header that a record carries.
-    pub const CARRIED: usize = 243;
+    // Where the year of an aired record ends.
+    pub const BEHIND: usize = 378;
+
+    // Where the year stands in a header with its year, and the bytes of both.
+    pub const YEAR: usize = 243;
+
+    pub const CARRIED: usize = 245;
 
     // Kinds.
     pub const NOTICE: u8 = 1;
@@ -61,9 +67,9 @@ impl Record {
         Record { bytes: b }
     }
 
-    // An aired record has only a header.
+    // An aired record has only a header with its year.
     pub fn aired(header: &[u8]) -> Record
-        requires { ⌜ length (now header) ≡ 243 ⌝ }
+        requires { ⌜ length (now header) ≡ 245 ⌝ }
         ensures { λ r. ⌜ r .bytes ≡ aired (now (header .entry)) ⌝ }
     {
         let mut b = [0u8; Record::SIZE];
@@ -191,14 +197,6 @@ fn header_in(h: &[u8]) -> BodyRead
     header::read_body(&h[0..n])
 }
 
-// Whether h is a header, zero-filled.
-fn is_header(h: &[u8]) -> bool
-    ensures { λ r. ⌜ r ≡ headerOk (now (h .entry)) ⌝ }
-{
-    let read = header_in(h);
-    read.number == 0
-}
-
 // Whether the day, hour and minute of a header are those of sent.
 fn is_on(b: Body, sent: u32) -> bool
     requires { ⌜ sent < span ⌝ }
@@ -254,6 +252,99 @@ fn is_withdrawal(r: &[u8]) -> bool
     are_zeros(&r[Record::ZEROS..Record::SIZE])
 }
 
+// ---- a header with its year
+
+// The UTC year of a sent.
+fn year_of(sent: u32) -> u32
+    ensures { λ r. ⌜ r ≡ stampOf sent .year ⌝ }
+{
+    if SPAN <= sent {
+        return 2099;
+    }
+    let on = clock::stamp_of(sent);
+    on.year
+}
+
+// The two bytes of a year, high byte first.
+fn two_bytes(year: u32) -> [u8; 2]
+    ensures { λ r. ⌜ r ≡ be2 year ⌝ }
+{
+    [(year / 256 % 256) as u8, (year % 256) as u8]
+}
+
+// The header h of a message with the key k, with the year of its sent.
+fn with_year(k: &[u8], h: &[u8]) -> [u8; Record::CARRIED]
+    requires { ⌜ (length (now k) ≡ 132) × (length (now h) ≡ 243) ⌝ }
+    ensures { λ g. ⌜ g ≡ dated (now (k .entry)) (now (h .entry)) ⌝ }
+{
+    let year = two_bytes(year_of(sent_of(k)));
+    let mut g = [0u8; Record::CARRIED];
+    octets::put_bytes(&mut g, 0, h);
+    octets::put_bytes(&mut g, Record::YEAR, &year);
+    g
+}
+
+fn copied(h: &[u8]) -> [u8; Record::CARRIED]
+    requires { ⌜ length (now h) ≡ 245 ⌝ }
+    ensures { λ g. ⌜ g ≡ now (h .entry) ⌝ }
+{
+    let mut g = [0u8; Record::CARRIED];
+    octets::put_bytes(&mut g, 0, h);
+    g
+}
+
+// The header with its year that a notice or an aired record carries.
+pub fn carried_by(r: &[u8]) -> [u8; Record::CARRIED]
+    requires { ⌜ length (now r) ≡ 384 ⌝ }
+    ensures { λ g. ⌜ g ≡ carried (now (r .entry)) ⌝ }
+{
+    if r[Record::KIND] == Record::NOTICE {
+        return with_year(
+            &r[Record::SENT..Record::HEADER],
+            &r[Record::HEADER..Record::ZEROS],
+        );
+    }
+    copied(&r[Record::HEADER..Record::BEHIND])
+}
+
+// The year in a header with its year.
+fn year_in(g: &[u8]) -> u32
+    requires { ⌜ length (now g) ≡ 245 ⌝ }
+    ensures { λ r. ⌜ r ≡ yearIn (now (g .entry)) ⌝ }
+{
+    wide(g[Record::YEAR]) * 256 + wide(g[Record::YEAR + 1])
+}
+
+// Whether a year has a day.
+fn has_day(year: u32, day: u32) -> bool
+    ensures { λ r. ⌜ r ≡ leb day (yearDays year) ⌝ }
+{
+    if clock::is_leap(year) {
+        return day <= 366;
+    }
+    day <= 365
+}
+
+// Whether g is a header, zero-filled, with a year of 2000 to 2099 that has its day.
+fn is_dated(g: &[u8]) -> bool
+    requires { ⌜ length (now g) ≡ 245 ⌝ }
+    ensures { λ r. ⌜ r ≡ every holds (headerOk (headerOf (now (g .entry))) ∷ yearOk (now (g .entry)) ∷ []) ⌝ }
+{
+    let read = header_in(&g[0..Record::YEAR]);
+    if read.number != 0 {
+        return false;
+    }
+    let year = year_in(g);
+    if year < 2000 {
+        return false;
+    }
+    if 2099 < year {
+        return false;
+    }
+    let body = read.body;
+    has_day(year, body.day)
+}
+
 fn is_aired(r: &[u8]) -> bool
     requires { ⌜ length (now r) ≡ 384 ⌝ }
     ensures { λ x. ⌜ x ≡ every holds (airedTests (now (r .entry))) ⌝ }
@@ -261,10 +352,10 @@ fn is_aired(r: &[u8]) -> bool
     if !are_zeros(&r[Record::SENT..Record::HEADER]) {
         return false;
     }
-    if !is_header(&r[Record::HEADER..Record::ZEROS]) {
+    if !is_dated(&r[Record::HEADER..Record::BEHIND]) {
         return false;
     }
-    are_zeros(&r[Record::ZEROS..Record::SIZE])
+    are_zeros(&r[Record::BEHIND..Record::SIZE])
 }
 
 // Whether r is a record.
@@ -285,23 +376,4 @@ pub fn is_record(r: &[u8]) -> bool
         return is_aired(r);
     }
     false
-}
-
-// ---- the header of a record
-
-fn copied(h: &[u8]) -> [u8; Record::CARRIED]
-    requires { ⌜ length (now h) ≡ 243 ⌝ }
-    ensures { λ g. ⌜ g ≡ now (h .entry) ⌝ }
-{
-    let mut g = [0u8; Record::CARRIED];
-    octets::put_bytes(&mut g, 0, h);
-    g
-}
-
-// The header that a notice or an aired record carries.
-pub fn carried_by(r: &[u8]) -> [u8; Record::CARRIED]
-    requires { ⌜ length (now r) ≡ 384 ⌝ }
-    ensures { λ g. ⌜ g ≡ carried (now (r .entry)) ⌝ }
-{
-    copied(&r[Record::HEADER..Record::ZEROS])
 }

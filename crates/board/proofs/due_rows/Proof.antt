@@ -1,5 +1,6 @@
 -- k rows stand, and the scan behind the last of their headers finds the next.
-use Prim.Native.Nat.{_-_, _≤_, _<_}
+use Prim.Native.Nat.{ℕ, _-_, _≤_, _<_}
+use mathlib.Core.List.{List}
 use mathlib.Core.Path.{_≡_, refl}
 use native.Mathlib.Omega.{arith}
 use lib.ListN.{length}
@@ -20,11 +21,17 @@ abbrev μ-loop : tie.MeasureT-loop
 μ-loop s n marks rows₀ k₀ j₀ rows k j = length (due (recs n s)) - k
 
 -- in a turn, a header is left
-room : (c : tie.In-loop Inv-loop μ-loop) → (c .before .loop .k < length (due (recs (c .before .before .before .before .before .before .before .args .n) (c .before .before .before .before .before .before .before .args .s .now)))) × (length (due (recs (c .before .before .before .before .before .before .before .args .n) (c .before .before .before .before .before .before .before .args .s .now))) ≤ c .before .before .before .before .before .before .before .args .n) × (c .before .loop .j < c .before .before .before .before .before .before .before .args .n) × (c .before .before .before .before .before .before .before .args .n ≤ 170)
+abbrev Room : ℕ → List ℕ → ℕ → ℕ → Type 0
+Room n s k j = (k < length (due (recs n s))) × (length (due (recs n s)) ≤ n) × (j < n) × (n ≤ 170)
+
+room : (c : tie.In-loop Inv-loop μ-loop) →
+    let a = c .before .before .before .before .before .before .before .args in
+    Room (a .n) (a .s .now) (c .before .loop .k) (c .before .loop .j)
 room c =
     let l = c .before .loop in
-    let a = c .before .before .before .before .before .before .before .args in
-    (row-within (a .n) (a .s .now) _ (l .rows) (l .k) (l .j) (l .inv .2) (c .loop-test .taken), due-most (a .n) (a .s .now), c .loop-test .taken, c .before .before .before .before .before .before .before .pre .1)
+    let s = c .before .before .before .before .before .before .before in
+    let a = s .args in
+    (row-within (a .n) (a .s .now) _ (l .rows) (l .k) (l .j) (l .inv .2) (c .loop-test .taken), due-most (a .n) (a .s .now), c .loop-test .taken, s .pre .1)
 
 live-marks-requires : tie.Need-live-marks-requires Inv-loop μ-loop
 live-marks-requires c κs = search needs

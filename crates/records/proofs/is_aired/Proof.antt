@@ -1,10 +1,9 @@
--- Its unused fields and its header in turn.
+-- Its unused fields, and its header with its year.
 use mathlib.Core.Path.{sym, _∙_}
-use mathlib.Core.List.{[], _∷_}
 use borrow.Author.Tests.{not-true, not-false}
 use Rattle.octets.proofs.Tests.{one-fails}
-use Rattle.octets.proofs.Everys.{last-decides}
-use Rattle.records.specs.Record.{key, header, rest, airedTests}
+use Rattle.records.specs.Record.{key, airedIn, behind, airedTests}
+use Rattle.records.proofs.Judging.{aired-not, aired-decides}
 use borrow.Author.Needs.{needs}
 use Rattle.records.proofs.is_aired.Statement.{statement}
 use Rattle.records.proofs.is_aired.Tie as tie
@@ -25,21 +24,21 @@ returns : tie.Need-returns
 unfolding key
 returns c = sym (one-fails 0 (airedTests (c .before .before .before .before .args .r .now)) (sym (c .before .are-zeros .ensures) ∙ not-true _ (c .if1 .taken)))
 
-sub-is-header : tie.Need-sub-is-header
-sub-is-header c = search needs
+sub-is-dated : tie.Need-sub-is-dated
+sub-is-dated c = search needs
 
-part-is-header-start : tie.Need-part-is-header-start
-part-is-header-start c = search needs
+part-is-dated-start : tie.Need-part-is-dated-start
+part-is-dated-start c = search needs
 
-part-is-header-end : tie.Need-part-is-header-end
-part-is-header-end c = search needs
+part-is-dated-end : tie.Need-part-is-dated-end
+part-is-dated-end c = search needs
 
-is-header-requires : tie.Need-is-header-requires
-is-header-requires c κs = search needs
+is-dated-requires : tie.Need-is-dated-requires
+is-dated-requires c κs = search needs
 
 returns-2 : tie.Need-returns-2
-unfolding header
-returns-2 c = sym (one-fails 1 (airedTests (c .before .before .before .before .before .before .before .args .r .now)) (sym (c .before .is-header .ensures) ∙ not-true _ (c .if2 .taken)))
+unfolding airedIn
+returns-2 c = sym (aired-not (c .before .before .before .before .before .before .before .args .r .now) (sym (c .before .is-dated .ensures) ∙ not-true _ (c .if2 .taken)))
 
 sub-are-zeros-2 : tie.Need-sub-are-zeros-2
 sub-are-zeros-2 c = search needs
@@ -54,8 +53,14 @@ are-zeros-requires-2 : tie.Need-are-zeros-requires-2
 are-zeros-requires-2 c κs = search needs
 
 returns-3 : tie.Need-returns-3
-unfolding key header rest
-returns-3 c = c .are-zeros2 .ensures ∙ sym (last-decides (_ ∷ _ ∷ []) _ (sym (c .before .before .before .before .before .before .are-zeros .ensures) ∙ not-false _ (c .before .before .before .before .before .if1 .left), (sym (c .before .before .before .is-header .ensures) ∙ not-false _ (c .before .before .if2 .left), tt)))
+unfolding key airedIn behind
+returns-3 c =
+    let key = c .before .before .before .before .before in
+    let dated = c .before .before in
+    aired-decides (key .before .before .before .before .args .r .now)
+    (sym (key .before .are-zeros .ensures) ∙ not-false _ (key .if1 .left))
+    (sym (dated .before .is-dated .ensures) ∙ not-false _ (dated .if2 .left))
+    _ (c .are-zeros2 .ensures)
 
 pub is-aired-spec : {M : Type 1} → statement M
 is-aired-spec =
@@ -66,10 +71,10 @@ is-aired-spec =
     part-are-zeros-end
     are-zeros-requires
     returns
-    sub-is-header
-    part-is-header-start
-    part-is-header-end
-    is-header-requires
+    sub-is-dated
+    part-is-dated-start
+    part-is-dated-end
+    is-dated-requires
     returns-2
     sub-are-zeros-2
     part-are-zeros-start-2

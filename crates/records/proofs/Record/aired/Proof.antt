@@ -1,4 +1,4 @@
--- The header is put behind 132 zeros.
+-- The header with its year is put behind 132 zeros.
 use Rattle.records.proofs.Making.{aired-made}
 use borrow.Author.Needs.{needs}
 use Rattle.records.proofs.Record.aired.Statement.{statement}
