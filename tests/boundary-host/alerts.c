@@ -2,6 +2,7 @@
 
 #include "characters.h"
 #include "markup.h"
+#include "times.h"
 
 #include <string.h>
 

@@ -1,8 +1,8 @@
 #include "boards.h"
 
-#include "markup.h"
 #include "replay.h"
 #include "stuiverhaag.h"
+#include "times.h"
 
 #include <stdlib.h>
 #include <string.h>

@@ -5,7 +5,6 @@
 
 #include <string.h>
 
-#define DAY 86400
 #define NONE ((size_t)-1)
 
 /* How freely a message is written: each is a chance of one in so many, 0 for never. */
@@ -28,7 +27,7 @@ static bool happens(size_t times)
     return times > 0 && once_in(times);
 }
 
-/* ---- words and times */
+/* ---- words */
 
 void draw_word(char *word, size_t length)
 {
@@ -57,74 +56,6 @@ void draw_text(struct bytes *out, size_t length, bool one_word)
         else
             put_byte(out, (unsigned)(kind == 6 ? odd[below(sizeof odd - 1)] : (char)('a' + below(26))));
     }
-}
-
-static int64_t year_length(int64_t year)
-{
-    return 365 + (year % 4 == 0 && (year % 100 != 0 || year % 400 == 0));
-}
-
-/* The day of an instant from the first day of 2000 on, downwards before it. */
-static int64_t day_of(int64_t seconds)
-{
-    return (seconds >= 0 ? seconds : seconds - (DAY - 1)) / DAY;
-}
-
-/* Year, and day of the year from 0, of a day counted from the first of 2000. */
-static int64_t year_and_day(int64_t *day)
-{
-    int64_t year = 2000;
-
-    while (*day < 0)
-        *day += year_length(--year);
-    while (*day >= year_length(year))
-        *day -= year_length(year++);
-    return year;
-}
-
-void put_moment(struct bytes *out, int64_t sent)
-{
-    int64_t day = sent / DAY;
-
-    year_and_day(&day);
-    put_number(out, (uint64_t)day + 1, 3);
-    put_number(out, (uint64_t)(sent % DAY / 3600), 2);
-    put_number(out, (uint64_t)(sent % DAY / 60 % 60), 2);
-}
-
-static void put_date(struct bytes *out, int64_t day)
-{
-    int lengths[12] = {31, 28, 31, 30, 31, 30, 31, 31, 30, 31, 30, 31};
-    int64_t year = year_and_day(&day);
-    unsigned month = 0;
-
-    lengths[1] = (int)year_length(year) - 337;
-    while (day >= lengths[month])
-        day -= lengths[month++];
-    put_number(out, (uint64_t)year, 4);
-    put_byte(out, '-');
-    put_number(out, month + 1, 2);
-    put_byte(out, '-');
-    put_number(out, (uint64_t)day + 1, 2);
-}
-
-void put_time(struct bytes *out, int64_t utc, int zone)
-{
-    int64_t local = utc + zone * 60;
-    uint64_t second = (uint64_t)(local - day_of(local) * DAY);
-    unsigned minutes = (unsigned)(zone < 0 ? -zone : zone);
-
-    put_date(out, day_of(local));
-    put_byte(out, 'T');
-    put_number(out, second / 3600, 2);
-    put_byte(out, ':');
-    put_number(out, second / 60 % 60, 2);
-    put_byte(out, ':');
-    put_number(out, second % 60, 2);
-    put_byte(out, zone < 0 ? '-' : '+');
-    put_number(out, minutes / 60, 2);
-    put_byte(out, ':');
-    put_number(out, minutes % 60, 2);
 }
 
 /* ---- markup */

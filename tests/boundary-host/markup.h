@@ -1,13 +1,10 @@
-/* Markup of the subset: leaves and pairs, written as freely as a message may be, and times. */
+/* Markup of the subset: leaves and pairs, written as freely as a message may be. */
 #ifndef MARKUP_H
 #define MARKUP_H
 
 #include "chance.h"
 
 #define NAMESPACE "urn:oasis:names:tc:emergency:cap:1.2"
-
-/* Seconds since 2000 began at which 2100 begins. */
-#define END_OF_TIME INT64_C(3155760000)
 
 /* Draws how freely the next message is written, and that it has no fault. */
 void draw_style(void);
@@ -26,12 +23,6 @@ void draw_word(char *word, size_t length);
  * unless it is one word.
  */
 void draw_text(struct bytes *out, size_t length, bool one_word);
-
-/* An instant, in seconds since 2000 began, as CAP writes it in a zone of so many minutes. */
-void put_time(struct bytes *out, int64_t utc, int zone);
-
-/* JJJHHMM of an instant. */
-void put_moment(struct bytes *out, int64_t utc);
 
 /* White space, or none; and what else may stand between elements. */
 void put_gap(struct bytes *out);
