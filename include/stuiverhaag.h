@@ -32,7 +32,7 @@ extern "C" {
 /* Where several apply, the lowest is returned, but 16 before 15. */
 enum stuiverhaag_numbers {
     STUIVERHAAG_DONE = 0,
-    /* the board breaks its rules */
+    /* the board breaks its rules, as one with an aired record without a year does */
     STUIVERHAAG_BOARD_RULES = 1,
     /*
      * a lent output has fewer bytes than STUIVERHAAG_HEADER_LENGTH, _TEXT_LENGTH or _URI_LENGTH,
@@ -112,6 +112,34 @@ enum stuiverhaag_originators {
 
 /* How many characters a text has at most. Each is 1 to 4 bytes of it. */
 #define STUIVERHAAG_TEXT_CHARACTERS 1800
+
+/*
+ * A board is 1 to STUIVERHAAG_RECORDS_MOST records of STUIVERHAAG_RECORD_LENGTH bytes. Filled
+ * records come first, strictly ascending by their bytes; the rest are all zero. A record has these
+ * bytes, counted from 0:
+ *
+ *     0            its kind: 1 notice, 2 withdrawal, 3 aired
+ *     1 to 4       sent, seconds since 2000 began in UTC, highest byte first, below 3,155,760,000
+ *     5 to 68      the sender, zero-filled
+ *     69 to 132    the identifier, zero-filled
+ *     133 to 375   the header through the dash after JJJHHMM, without the station, zero-filled
+ *     376 and 377  the year, high byte first, 2000 to 2099
+ *     378 to 383   zero
+ *
+ * A notice has all but the year, and its JJJHHMM is that of its sent. A withdrawal has sent, sender
+ * and identifier. An aired record has a header and a year, one that has the header's day: for day
+ * 366 a leap year. What a kind does not have is zero. Sender and identifier keep the rules that
+ * they have in a message, and a header those of stuiverhaag_read_header.
+ *
+ * Two headers are the same only if the UTC year of sent agrees too. A notice carries its header
+ * with the year of its sent, an aired record with the year that it has. A withdrawal withdraws each
+ * notice with its sent, sender and identifier. A header is due if a notice that is not withdrawn
+ * carries it and no aired record does. Due headers are ordered by their bytes, then by year.
+ *
+ * A board with an aired record without a year, as old boards have, is answered 1. It is rebuilt
+ * from the message log: the messages are offered to an empty board. An offer airs nothing, so that
+ * what the old board handed out may be due again on the new one.
+ */
 
 /* How long a record of a board is, and how many records a board has at most. */
 #define STUIVERHAAG_RECORD_LENGTH 384
@@ -197,9 +225,11 @@ uint64_t stuiverhaag_offer(uint8_t *board, size_t board_length,
                            const uint8_t *message, size_t message_length);
 
 /*
- * Hands out the first due header of a board, and adds its record of having been aired. The board
- * is lent to be read and written. The header stands at STUIVERHAAG_RECORD_HEADER_AT of the record
- * that the index counts, before the call and after it.
+ * Hands out the first due header of a board, by its bytes and then by its year, and adds its aired
+ * record, with that year. The board is lent to be read and written. The header stands at
+ * STUIVERHAAG_RECORD_HEADER_AT of the record that the index counts, a notice, before the call and
+ * after it. On a board that began empty no header with its year is handed out twice; the same bytes
+ * may come again with another year.
  *
  * Numbers 0, 1, 16 and 15, asked in this order. After 0 the answer has index.
  */
