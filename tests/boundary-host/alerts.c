@@ -10,6 +10,7 @@
 
 /* ---- an alert as it is drawn */
 
+/* Now and then its year is another one in UTC than in its zone. */
 static void draw_identity(struct identity *identity)
 {
     static const size_t lengths[] = {1, 1, 2, 3, 8, 20, 63, 64};
@@ -18,6 +19,8 @@ static void draw_identity(struct identity *identity)
     draw_word(identity->sender, PICK(lengths));
     draw_word(identity->identifier, PICK(lengths));
     identity->sent = once_in(20) ? between(0, 1) * (END_OF_TIME - 1) : between(0, END_OF_TIME - 1);
+    if (once_in(8))
+        identity->sent = instant(between(2001, 2099), 1, 0) + between(-DAY / 2, DAY / 2);
     identity->zone = PICK(zones);
 }
 

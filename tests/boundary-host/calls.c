@@ -1,5 +1,6 @@
 #include "calls.h"
 
+#include "boards.h"
 #include "characters.h"
 #include "lent.h"
 #include "replay.h"
@@ -66,6 +67,7 @@ static unsigned long fields[CALLS][FIELDS];
 static unsigned long texts[CALLS][TEXT_KINDS];
 static unsigned long quiet;
 static unsigned long decided_by_characters;
+static unsigned long decided_by_records;
 static unsigned long wide_calls;
 static bool printing;
 static struct answered last;
@@ -120,12 +122,6 @@ static bool is_message_length(size_t length)
     return length >= 1 && length <= STUIVERHAAG_MESSAGE_LONGEST;
 }
 
-static bool is_board_length(size_t length)
-{
-    return length % STUIVERHAAG_RECORD_LENGTH == 0 && length > 0 &&
-           length <= (size_t)STUIVERHAAG_RECORDS_MOST * STUIVERHAAG_RECORD_LENGTH;
-}
-
 static bool is_header_length(size_t length)
 {
     return length >= 42 && length <= STUIVERHAAG_HEADER_LENGTH && length % 7 == 0;
@@ -150,7 +146,7 @@ static unsigned decided_by_message(struct slice message)
     return are_of_message(message.bytes, message.length) ? STUIVERHAAG_DONE : STUIVERHAAG_XML_BAD;
 }
 
-/* The number that a slice alone decides, by its length, its characters or as a station; 0 where it decides none. */
+/* The number that a slice alone decides, by its length, its characters, its records or as a station; 0 for none. */
 static unsigned decided_by(const struct used *used)
 {
     size_t length = used->slice.length;
@@ -163,7 +159,7 @@ static unsigned decided_by(const struct used *used)
     case HEADER:
         return is_header_length(length) ? STUIVERHAAG_DONE : STUIVERHAAG_NO_HEADER;
     case BOARD:
-        return is_board_length(length) ? STUIVERHAAG_DONE : STUIVERHAAG_BOARD_RULES;
+        return keeps_rules(used->slice.bytes, length) ? STUIVERHAAG_DONE : STUIVERHAAG_BOARD_RULES;
     case HEADER_OUTPUT:
         return length >= STUIVERHAAG_HEADER_LENGTH ? STUIVERHAAG_DONE : STUIVERHAAG_OUTPUT_SHORT;
     case TEXT_OUTPUT:
@@ -189,13 +185,13 @@ static unsigned lowest_decided(const struct asked *asked)
     return lowest;
 }
 
-/* That number is answered, unless the board's content decides before it. */
+/* That number is answered, and 1 to 4 only where they are so decided. */
 static void check_decided(unsigned lowest, unsigned number)
 {
-    must(lowest == STUIVERHAAG_DONE || number == lowest || number == STUIVERHAAG_BOARD_RULES,
-         "The number is not the one that a length, the station or the message's characters decide.");
-    must(number < STUIVERHAAG_OUTPUT_SHORT || number > STUIVERHAAG_MESSAGE_LENGTH_BAD || number == lowest,
-         "Number 2, 3 or 4 does not go with the lengths and the station.");
+    must(lowest == STUIVERHAAG_DONE || number == lowest,
+         "The number is not the one that a length, the station, the records or the message's characters decide.");
+    must(number < STUIVERHAAG_BOARD_RULES || number > STUIVERHAAG_MESSAGE_LENGTH_BAD || number == lowest,
+         "Number 1, 2, 3 or 4 does not go with the lengths, the station and the records.");
     decided_by_characters += lowest == STUIVERHAAG_XML_BAD && number == lowest;
 }
 
@@ -388,6 +384,8 @@ static void count(const struct asked *asked, uint64_t answer)
         fields[asked->call][stuiverhaag_field(answer)]++;
     if (asked->call == CONVERT && answer == 0)
         quiet++;
+    if (stuiverhaag_number(answer) == STUIVERHAAG_BOARD_RULES)
+        decided_by_records += is_board_length(asked->used[0].slice.length);
     for (size_t i = 0; i < asked->count; i++)
         has_wide = has_wide || asked->used[i].slice.length >= WIDE;
     wide_calls += has_wide;
@@ -514,6 +512,13 @@ void print_grouped(unsigned long number)
     printf(",%03lu", number % 1000);
 }
 
+bool print_seen(unsigned long count, const char *what)
+{
+    print_grouped(count);
+    printf(" %s\n", what);
+    return count > 0;
+}
+
 static void print_count(const char *before, unsigned number, unsigned long count)
 {
     printf("%s%u: ", before, number);
@@ -587,8 +592,10 @@ bool print_counts(void)
     printf(" were Cancels that activate nothing\n");
     print_grouped(decided_by_characters);
     printf(" of all calls were answered 5 for a message that is not UTF-8 or has characters that XML 1.0 has not\n");
+    print_grouped(decided_by_records);
+    printf(" of all calls were answered 1 for the records of a board, whose length is one that a board has\n");
     print_grouped(wide_calls);
     printf(" of all calls had a slice of more than 4,294,967,295 bytes%s\n",
            lends_wide() ? "" : ", since this machine does not lend them");
-    return seen && quiet > 0 && decided_by_characters > 0;
+    return seen && quiet > 0 && decided_by_characters > 0 && decided_by_records > 0;
 }

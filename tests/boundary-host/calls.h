@@ -51,8 +51,9 @@ struct slice written_uri(void);
 /* Prints every call before it is made. */
 void print_calls(void);
 
-/* Prints a number with commas. */
+/* Prints a number with commas; and how often something was seen, and whether it was. */
 void print_grouped(unsigned long number);
+bool print_seen(unsigned long count, const char *what);
 
 /* Prints how often each number and each kind of text was answered. Whether each that a call may answer was. */
 bool print_counts(void);

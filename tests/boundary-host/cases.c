@@ -3,25 +3,24 @@
 #include "alerts.h"
 #include "boards.h"
 #include "calls.h"
+#include "handed.h"
 #include "lent.h"
 #include "messages.h"
 #include "replay.h"
 #include "spellings.h"
 #include "stuiverhaag.h"
+#include "times.h"
+#include "years.h"
 
 #include <stdio.h>
 #include <string.h>
 
-#define RECORD STUIVERHAAG_RECORD_LENGTH
-#define HEADER_AT STUIVERHAAG_RECORD_HEADER_AT
-#define HEADER_ROOM STUIVERHAAG_RECORD_HEADER_LENGTH
 #define STATION STUIVERHAAG_STATION_LENGTH
-#define MOST_RELATED 8
-#define MOST_HANDED 256
+#define MOST_RELATED 10
 
 /* How often what one call gave was held beside what another gave. */
 static struct {
-    unsigned long written_again, read_again, modes, notices, taken_again, successors, orders;
+    unsigned long written_again, read_again, modes, notices, taken_again, orders, due, due_years, zones;
 } compared;
 
 /* ---- headers */
@@ -307,14 +306,6 @@ static void case_canadian(void)
 
 /* ---- boards */
 
-/* The headers that were handed out on a board. */
-struct handed {
-    uint8_t header[MOST_HANDED][HEADER_ROOM];
-    size_t count;
-    /* Since the last offer. */
-    size_t since;
-};
-
 /* An offer answers of a message what a conversion does, and the board then holds a notice with the header of that. */
 static void check_agreement(const struct bytes *board, struct slice message, uint64_t offered)
 {
@@ -382,39 +373,21 @@ static void case_cut(void)
     }
 }
 
-/* No header is handed out twice; those between two offers come in byte order. */
-static void check_handed(struct handed *handed, const uint8_t *header)
+/* The same day and time of the day in a year that may be another; the alert then ends before 2100 too. */
+static int64_t draw_sent_again(const struct alert *alert)
 {
-    for (size_t i = 0; i < handed->count; i++)
-        if (memcmp(handed->header[i], header, HEADER_ROOM) == 0)
-            broken("A header was handed out twice.");
-    if (handed->since > 0 && memcmp(handed->header[handed->count - 1], header, HEADER_ROOM) >= 0)
-        broken("Headers were not handed out in byte order.");
-    if (handed->count == MOST_HANDED)
-        broken("More headers were handed out than a board has records.");
-    memcpy(handed->header[handed->count], header, HEADER_ROOM);
-    compared.successors += handed->since > 0;
-    handed->count++;
-    handed->since++;
-}
+    int64_t sent = alert->own.sent, day = day_of(sent);
 
-static unsigned check_hand_out(struct bytes *board, struct handed *handed)
-{
-    static struct bytes before;
-    uint64_t answer;
-
-    copy(&before, board);
-    answer = hand_out(board);
-    if (stuiverhaag_number(answer) != STUIVERHAAG_DONE)
-        return stuiverhaag_number(answer);
-    check_aired(&before, board, stuiverhaag_index(answer));
-    check_handed(handed, board->byte + stuiverhaag_index(answer) * RECORD + HEADER_AT);
-    return STUIVERHAAG_DONE;
+    do
+        sent = instant(draw_year(day), day, sent % DAY);
+    while (sent + alert->lasts >= END_OF_TIME);
+    return sent;
 }
 
 /*
  * A message and others that concern it: of the same header, of the same identity, a quiet Cancel, an Update, one that
- * withdraws itself, a Cancel that is not quiet; and one that does not concern it and names as many as it may.
+ * withdraws itself, a Cancel that is not quiet; one that does not concern it and names as many as it may; and two that
+ * are the same but for the year of sent.
  */
 static void draw_related(struct alert *related)
 {
@@ -436,6 +409,8 @@ static void draw_related(struct alert *related)
     refer_to(&related[6], "Cancel", (struct identity[]){related[1].own, related[4].own}, 2);
     draw_alert(&related[7]);
     refer_to_unknown(&related[7], once_in(2) ? 16 : 2);
+    related[8].own.sent = draw_sent_again(first);
+    related[9].own.sent = draw_sent_again(first);
 }
 
 static size_t draw_records(void)
@@ -452,9 +427,8 @@ static void case_chain(void)
     static struct handed handed;
     struct alert related[MOST_RELATED];
 
-    handed.count = 0;
-    handed.since = 0;
     empty_board(&board, draw_records());
+    begin_handed(&handed, &board);
     draw_related(related);
     for (size_t left = 4 + below(24); left > 0; left--) {
         if (once_in(12))
@@ -470,31 +444,112 @@ static void case_chain(void)
         check_offer(&board, slice_of(&message));
         handed.since = 0;
     }
-    while (check_hand_out(&board, &handed) == STUIVERHAAG_DONE)
-        ;
+    check_all_handed(&board, &handed);
 }
 
-/* The same messages on two empty boards, each in its own order, leave the same records. */
+/* Messages that were taken, and the alerts that they were written from. */
+struct taken {
+    struct bytes message[MOST_RELATED];
+    const struct alert *alert[MOST_RELATED];
+    size_t count;
+};
+
+static bool names(const struct alert *alert, const struct identity *identity)
+{
+    for (size_t i = 0; i < alert->groups; i++)
+        if (strcmp(alert->group[i].sender, identity->sender) == 0 && alert->group[i].sent == identity->sent &&
+            strcmp(alert->group[i].identifier, identity->identifier) == 0)
+            return true;
+    return false;
+}
+
+static bool is_named(const struct taken *taken, const struct identity *identity)
+{
+    for (size_t i = 0; i < taken->count; i++)
+        if (names(taken->alert[i], identity))
+            return true;
+    return false;
+}
+
+/* Makes a notice that has of a taken message its header and its sent alone. Whether it has a header. */
+static bool make_carried(uint8_t *notice, const struct taken *taken, size_t which)
+{
+    uint64_t answer = convert(slice_of(&taken->message[which]), bench_station, just_enough);
+
+    if (stuiverhaag_header_length(answer) == 0)
+        return false;
+    memset(notice, 0, RECORD);
+    notice[0] = NOTICE;
+    place_sent(notice, taken->alert[which]->own.sent);
+    memcpy(notice + HEADER_AT, written_header().bytes, written_header().length - STATION - 1);
+    return true;
+}
+
+/* Adds what a notice carries, by header and then by year, unless it is there; how many there are then. */
+static size_t add_carried(uint8_t (*due)[RECORD], size_t count, const uint8_t *notice)
+{
+    size_t at = 0;
+
+    while (at < count && compare_headers(due[at], notice) < 0)
+        at++;
+    if (at < count && compare_headers(due[at], notice) == 0)
+        return count;
+    memmove(due[at + 1], due[at], (count - at) * RECORD);
+    memcpy(due[at], notice, RECORD);
+    return count + 1;
+}
+
+/* Due are the headers, each with its year, of the messages taken that none of these names; they are handed out so. */
+static void check_due_of(const struct taken *taken, struct bytes *board)
+{
+    static struct handed handed;
+    uint8_t due[MOST_RELATED][RECORD], notice[RECORD];
+    size_t count = 0;
+
+    for (size_t i = 0; i < taken->count; i++)
+        if (!is_named(taken, &taken->alert[i]->own) && make_carried(notice, taken, i)) {
+            count = add_carried(due, count, notice);
+            compared.zones += year_of(sent_in(notice) + taken->alert[i]->own.zone * 60) != year_in(notice);
+        }
+    begin_handed(&handed, board);
+    check_all_handed(board, &handed);
+    must(handed.count == count, "Not as many headers were handed out as the messages taken make due.");
+    for (size_t i = 0; i < count; i++) {
+        must(compare_headers(handed.record[i], due[i]) == 0, "A header was handed out that no message makes due so.");
+        compared.due++;
+        compared.due_years += i > 0 && memcmp(due[i - 1] + HEADER_AT, due[i] + HEADER_AT, HEADER_ROOM) == 0;
+    }
+}
+
+/* The same messages on two empty boards, each in its own order, leave the same records, and make due what they say. */
 static void case_orders(void)
 {
-    static struct bytes board, other, taken[MOST_RELATED];
+    static struct bytes board, other;
+    static struct taken taken;
     struct alert related[MOST_RELATED];
-    size_t count = 0, turn = below(MOST_RELATED);
+    size_t turn = below(MOST_RELATED);
 
     draw_related(related);
     empty_board(&board, MOST_RELATED * 17);
     empty_board(&other, MOST_RELATED * 17);
+    taken.count = 0;
     for (size_t i = 0; i < MOST_RELATED; i++) {
-        write_alert(&taken[count], &related[(turn + 5 * i) % MOST_RELATED]);
-        if (check_offer(&board, slice_of(&taken[count])) == STUIVERHAAG_DONE)
-            count++;
+        const struct alert *alert = &related[(turn + 3 * i) % MOST_RELATED];
+
+        if (once_in(3))
+            continue;
+        write_alert(&taken.message[taken.count], alert);
+        taken.alert[taken.count] = alert;
+        if (check_offer(&board, slice_of(&taken.message[taken.count])) == STUIVERHAAG_DONE)
+            taken.count++;
     }
-    for (size_t i = count; i > 0; i--)
-        if (check_offer(&other, slice_of(&taken[i - 1])) != STUIVERHAAG_DONE)
+    for (size_t i = taken.count; i > 0; i--)
+        if (check_offer(&other, slice_of(&taken.message[i - 1])) != STUIVERHAAG_DONE)
             broken("A message that one board took is refused by another.");
     if (memcmp(board.byte, other.byte, board.length) != 0)
         broken("The same messages in another order leave another board.");
-    compared.orders += count > 1;
+    compared.orders += taken.count > 1;
+    check_due_of(&taken, &board);
 }
 
 /* A made board, often damaged, that a message is offered to or headers are handed out from. */
@@ -509,14 +564,12 @@ static void case_board(void)
     made_board(&board, records, filled, PICK(worlds));
     if (once_in(2))
         damage_board(&board);
-    handed.count = 0;
-    handed.since = 0;
+    begin_handed(&handed, &board);
     if (once_in(2)) {
         any_message(&message);
         check_offer(&board, slice_of(&message));
     }
-    while (check_hand_out(&board, &handed) == STUIVERHAAG_DONE)
-        ;
+    check_all_handed(&board, &handed);
 }
 
 /* ---- lengths that 32 bits cannot say */
@@ -601,30 +654,27 @@ void run_case(unsigned long number)
         case_chain();
     else if (kind < 9450)
         case_orders();
+    else if (kind < 9550)
+        case_year();
     else
         case_board();
 }
 
 /* ---- what was compared */
 
-static bool print_compared_of(unsigned long count, const char *what)
-{
-    print_grouped(count);
-    printf(" %s\n", what);
-    return count > 0;
-}
-
 bool print_compared(void)
 {
     bool all = true;
 
     puts("calls held beside each other:");
-    all = print_compared_of(compared.written_again, "headers read, and written again to the same bytes") && all;
-    all = print_compared_of(compared.read_again, "headers written, and read again as the same parts") && all;
-    all = print_compared_of(compared.modes, "uris of the Canadian mode, the same in a conversion") && all;
-    all = print_compared_of(compared.notices, "headers of conversions, on a board after an offer") && all;
-    all = print_compared_of(compared.taken_again, "offers that added, made again to add nothing") && all;
-    all = print_compared_of(compared.successors, "headers handed out behind another, in byte order") && all;
-    all = print_compared_of(compared.orders, "pairs of boards, the same messages in two orders") && all;
+    all = print_seen(compared.written_again, "headers read, and written again to the same bytes") && all;
+    all = print_seen(compared.read_again, "headers written, and read again as the same parts") && all;
+    all = print_seen(compared.modes, "uris of the Canadian mode, the same in a conversion") && all;
+    all = print_seen(compared.notices, "headers of conversions, on a board after an offer") && all;
+    all = print_seen(compared.taken_again, "offers that added, made again to add nothing") && all;
+    all = print_seen(compared.orders, "pairs of boards, the same messages in two orders") && all;
+    all = print_seen(compared.due, "headers handed out with the years that the messages taken gave them") && all;
+    all = print_seen(compared.due_years, "of them behind the same header with an earlier year") && all;
+    all = print_seen(compared.zones, "messages that made a header due, of another year in their zone") && all;
     return all;
 }

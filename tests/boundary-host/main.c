@@ -8,15 +8,17 @@
  */
 #include "calls.h"
 #include "cases.h"
+#include "handed.h"
 #include "lent.h"
 #include "replay.h"
 #include "spellings.h"
+#include "years.h"
 
 #include <stdio.h>
 #include <stdlib.h>
 #include <string.h>
 
-/* So many calls are enough for every number and every kind of text to be answered. */
+/* So many calls are enough for every number and every kind of text to be answered, and every year to be tried. */
 #define ENOUGH 2000000
 #define PROGRESS 250000
 #define BAD_USAGE 2
@@ -46,10 +48,12 @@ static void run(unsigned long calls)
     print_so_far();
     enough = print_counts();
     enough = print_compared() && enough;
+    enough = print_handed() && enough;
+    enough = print_years() && enough;
     enough = print_spellings() && enough;
     if (!enough && calls >= ENOUGH) {
         fflush(stdout);
-        fprintf(stderr, "A number, a field, a kind of text or a comparison was never seen: too little was tested.\n");
+        fprintf(stderr, "A number, field, kind of text, year or comparison was never seen: too little was tested.\n");
         exit(EXIT_FAILURE);
     }
 }

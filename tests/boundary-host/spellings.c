@@ -461,13 +461,6 @@ void case_cut_values(void)
 
 /* ---- what was tried */
 
-static bool print_one(unsigned long count, const char *what)
-{
-    print_grouped(count);
-    printf(" %s\n", what);
-    return count > 0;
-}
-
 /* Whether each place was tried in each way. */
 static bool print_tried(void)
 {
@@ -488,9 +481,9 @@ bool print_spellings(void)
 {
     bool all = print_tried();
 
-    all = print_one(texts, "texts, the same as by the message's values") && all;
-    all = print_one(cut_texts, "of them cut at 1,800 characters, which are more bytes") && all;
-    all = print_one(cut_names, "senderNames cut at 200 characters") && all;
-    all = print_one(cut_parts, "descriptions and instructions cut with a mark") && all;
+    all = print_seen(texts, "texts, the same as by the message's values") && all;
+    all = print_seen(cut_texts, "of them cut at 1,800 characters, which are more bytes") && all;
+    all = print_seen(cut_names, "senderNames cut at 200 characters") && all;
+    all = print_seen(cut_parts, "descriptions and instructions cut with a mark") && all;
     return all;
 }
