@@ -1,8 +1,9 @@
-//! The board: records of 384 bytes, offers, hand-outs and the list of due headers.
+//! The board: records of 384 bytes, offers, hand-outs and the list of due headers. Two headers
+//! are the same only if the UTC year of sent agrees too.
 
 use std::ops::Range;
 
-use crate::clock::{Moment, END};
+use crate::clock::{has_day, year, Moment, END, YEARS};
 use crate::header::{put_front, read_front, FRONT};
 use crate::judge::{judge, Activation, Identity, Judged};
 use crate::octets::Output;
@@ -20,7 +21,9 @@ const SENT: Range<usize> = 1..5;
 const SENDER: Range<usize> = 5..69;
 const IDENTIFIER: Range<usize> = 69..133;
 const FRONT_FIELD: Range<usize> = 133..133 + FRONT;
-const TAIL: Range<usize> = 133 + FRONT..RECORD;
+/// Of aired records alone.
+const YEAR: Range<usize> = FRONT_FIELD.end..FRONT_FIELD.end + 2;
+const TAIL: Range<usize> = YEAR.end..RECORD;
 
 /// Sent, sender and identifier: what a withdrawal names.
 const KEY: Range<usize> = 1..133;
@@ -52,9 +55,7 @@ pub fn hand_out(board: &mut [u8]) -> Result<usize, Refusal> {
     let filled = filled(board)?;
     let due = DueNotices::of(&board[..filled]);
     let index = *due.indices().first().ok_or(Refusal::NOTHING_DUE)?;
-    let mut aired = [0; RECORD];
-    aired[0] = AIRED;
-    aired[FRONT_FIELD].copy_from_slice(&record(board, index)[FRONT_FIELD]);
+    let aired = aired(header_with_year(record(board, index)));
     add(board, filled, &[aired])?;
     Ok(index)
 }
@@ -63,7 +64,8 @@ pub fn hand_out(board: &mut [u8]) -> Result<usize, Refusal> {
 pub fn list(board: &[u8], rows: &mut [Row]) -> Result<usize, Refusal> {
     let filled = filled(board)?;
     let due = DueNotices::of(&board[..filled]);
-    let same_header = |a: &usize, b: &usize| front_field(board, *a) == front_field(board, *b);
+    let header = |index: &usize| header_with_year(record(board, *index));
+    let same_header = |a: &usize, b: &usize| header(a) == header(b);
     let count = due.indices().chunk_by(same_header).count();
     if rows.len() < count {
         return Err(Refusal::OUTPUT);
@@ -92,9 +94,9 @@ fn filled(board: &[u8]) -> Result<usize, Refusal> {
 fn is_record(record: &[u8]) -> bool {
     is_zero(&record[TAIL])
         && match record[0] {
-            NOTICE => is_key(record) && is_front_of_sent(record),
-            WITHDRAWAL => is_key(record) && is_zero(&record[FRONT_FIELD]),
-            AIRED => is_zero(&record[KEY]) && front(record).is_some(),
+            NOTICE => is_key(record) && is_front_of_sent(record) && is_zero(&record[YEAR]),
+            WITHDRAWAL => is_key(record) && is_zero(&record[FRONT_FIELD]) && is_zero(&record[YEAR]),
+            AIRED => is_zero(&record[KEY]) && is_front_of_year(record),
             _ => false,
         }
 }
@@ -109,6 +111,12 @@ fn is_front_of_sent(record: &[u8]) -> bool {
     front(record) == Some(moment)
 }
 
+/// Whether an aired record has a front, and a year that has the front's day.
+fn is_front_of_year(record: &[u8]) -> bool {
+    let year = year_field(record);
+    YEARS.contains(&year) && front(record).is_some_and(|moment| has_day(year, moment.day))
+}
+
 /// The moment in a record's front, if the front is one.
 fn front(record: &[u8]) -> Option<Moment> {
     let parts = read_front(without_fill(&record[FRONT_FIELD])?)?;
@@ -116,7 +124,16 @@ fn front(record: &[u8]) -> Option<Moment> {
 }
 
 fn sent(record: &[u8]) -> u32 {
-    record[SENT].iter().fold(0, |number, b| number << 8 | u32::from(*b))
+    number(&record[SENT])
+}
+
+fn year_field(record: &[u8]) -> u32 {
+    number(&record[YEAR])
+}
+
+/// The number in some bytes, highest byte first.
+fn number(bytes: &[u8]) -> u32 {
+    bytes.iter().fold(0, |number, b| number << 8 | u32::from(*b))
 }
 
 /// Whether a field holds a sender or an identifier.
@@ -139,8 +156,18 @@ fn record(board: &[u8], index: usize) -> &[u8] {
     &board[index * RECORD..(index + 1) * RECORD]
 }
 
-fn front_field(board: &[u8], index: usize) -> &[u8] {
-    &record(board, index)[FRONT_FIELD]
+/// The header of a notice or an aired record, with its year: that of a notice's sent, that which
+/// an aired record carries.
+fn header_with_year(record: &[u8]) -> HeaderWithYear<'_> {
+    let year = if record[0] == AIRED { year_field(record) } else { year(sent(record)) };
+    HeaderWithYear { front: &record[FRONT_FIELD], year }
+}
+
+/// Ordered by header, then year.
+#[derive(PartialEq, Eq, PartialOrd, Ord)]
+struct HeaderWithYear<'a> {
+    front: &'a [u8],
+    year: u32,
 }
 
 /// New records in their order, none twice.
@@ -196,6 +223,14 @@ fn of_kind(kind: u8, identity: &Identity) -> Record {
     record
 }
 
+fn aired(header: HeaderWithYear) -> Record {
+    let mut record = [0; RECORD];
+    record[0] = AIRED;
+    record[FRONT_FIELD].copy_from_slice(header.front);
+    record[YEAR].copy_from_slice(&header.year.to_be_bytes()[2..]);
+    record
+}
+
 /// Merges new records, in order and not held, into the filled part of a board; 15.
 fn add(board: &mut [u8], filled: usize, new: &[Record]) -> Result<(), Refusal> {
     let mut end = filled + new.len() * RECORD;
@@ -215,7 +250,7 @@ fn add(board: &mut [u8], filled: usize, new: &[Record]) -> Result<(), Refusal> {
     Ok(())
 }
 
-/// The notices that make a header due, by header and then by index.
+/// The notices that make a header due, by header with its year and then by index.
 struct DueNotices {
     indices: [usize; MOST_RECORDS],
     count: usize,
@@ -231,7 +266,8 @@ impl DueNotices {
                 due.count += 1;
             }
         }
-        due.indices[..due.count].sort_unstable_by_key(|i| (front_field(filled, *i), *i));
+        due.indices[..due.count]
+            .sort_unstable_by_key(|index| (header_with_year(record(filled, *index)), *index));
         due
     }
 
@@ -245,7 +281,218 @@ fn is_withdrawn(notice: &[u8], filled: &[u8]) -> bool {
 }
 
 fn is_aired(notice: &[u8], filled: &[u8]) -> bool {
+    let header = header_with_year(notice);
     filled
         .chunks_exact(RECORD)
-        .any(|record| record[0] == AIRED && record[FRONT_FIELD] == notice[FRONT_FIELD])
+        .any(|record| record[0] == AIRED && header_with_year(record) == header)
+}
+
+#[cfg(test)]
+mod tests {
+    use super::*;
+    use crate::clock::instant;
+
+    const CEM: &[u8] = b"ZCZC-CIV-CEM-024031+0045-0951800-";
+    const TOR: &[u8] = b"ZCZC-CIV-TOR-024031+0045-0951800-";
+    const LAST_DAY: &[u8] = b"ZCZC-CIV-CEM-024031+0045-3661800-";
+
+    const IN_2010: [u8; 2] = [0x07, 0xda];
+    const IN_2011: [u8; 2] = [0x07, 0xdb];
+
+    /// A record of a kind, of identifier I1 and sender s, its header left empty.
+    fn keyed(kind: u8, time: &[u8; 25]) -> Record {
+        let mut record = [0; RECORD];
+        record[0] = kind;
+        record[SENT].copy_from_slice(&instant(time).unwrap().to_be_bytes());
+        record[SENDER.start] = b's';
+        record[IDENTIFIER][..2].copy_from_slice(b"I1");
+        record
+    }
+
+    fn notice(time: &[u8; 25], front: &[u8]) -> Record {
+        let mut record = keyed(NOTICE, time);
+        record[FRONT_FIELD][..front.len()].copy_from_slice(front);
+        record
+    }
+
+    fn aired(front: &[u8], year: [u8; 2]) -> Record {
+        let mut record = [0; RECORD];
+        record[0] = AIRED;
+        record[FRONT_FIELD][..front.len()].copy_from_slice(front);
+        record[YEAR].copy_from_slice(&year);
+        record
+    }
+
+    fn rows(board: &[u8]) -> Result<Vec<(usize, usize)>, Refusal> {
+        let mut rows = [Row::default(); MOST_RECORDS];
+        let count = list(board, &mut rows)?;
+        Ok(rows[..count].iter().map(|row| (row.index, row.count)).collect())
+    }
+
+    fn is_refused(record: Record) -> bool {
+        rows(&record) == Err(Refusal::BOARD)
+    }
+
+    /// The record that a hand-out puts behind these, of which none is greater.
+    fn handed_out(records: &[Record]) -> Record {
+        let mut board = [records, &[[0; RECORD]]].concat().concat();
+        hand_out(&mut board).unwrap();
+        record(&board, records.len()).try_into().unwrap()
+    }
+
+    #[test]
+    fn an_aired_record_has_its_year_high_byte_first() {
+        assert_eq!(YEAR, 376..378);
+        let table = [
+            (b"2010-04-05T18:00:30+00:00", [0x07, 0xda]),
+            (b"2047-04-05T18:00:30+00:00", [0x07, 0xff]),
+            (b"2048-04-04T18:00:30+00:00", [0x08, 0x00]),
+            (b"2099-04-05T18:00:30+00:00", [0x08, 0x33]),
+        ];
+        for (sent, year) in table {
+            assert_eq!(handed_out(&[notice(sent, CEM)]), aired(CEM, year));
+            assert!(!is_refused(aired(CEM, year)));
+            assert!(is_refused(aired(CEM, [year[1], year[0]])));
+        }
+    }
+
+    #[test]
+    fn years_of_aired_records_are_2000_to_2099() {
+        for year in [2000, 2001, 2047, 2048, 2098, 2099] {
+            assert!(!is_refused(aired(CEM, u16::to_be_bytes(year))), "{year}");
+        }
+        for year in [0, 1, 10, 1999, 2100, 2010 - 256, 2010 + 256, u16::MAX] {
+            assert!(is_refused(aired(CEM, u16::to_be_bytes(year))), "{year}");
+        }
+    }
+
+    #[test]
+    fn a_year_of_an_aired_record_has_its_day() {
+        for year in [2000, 2012, 2096] {
+            assert!(!is_refused(aired(LAST_DAY, u16::to_be_bytes(year))), "{year}");
+        }
+        for year in [2001, 2011, 2098, 2099, 2100, 0] {
+            assert!(is_refused(aired(LAST_DAY, u16::to_be_bytes(year))), "{year}");
+        }
+    }
+
+    #[test]
+    fn other_records_have_no_year() {
+        let sent = b"2010-04-05T18:00:30+00:00";
+        for record in [notice(sent, CEM), keyed(WITHDRAWAL, sent)] {
+            assert!(!is_refused(record));
+            for place in YEAR {
+                let mut odd = record;
+                odd[place] = IN_2010[place - YEAR.start];
+                assert!(is_refused(odd), "byte {place} of kind {}", record[0]);
+            }
+            let mut odd = record;
+            odd[YEAR].copy_from_slice(&IN_2010);
+            assert!(is_refused(odd), "kind {}", record[0]);
+        }
+    }
+
+    #[test]
+    fn behind_the_year_stand_zeros() {
+        let sent = b"2010-04-05T18:00:30+00:00";
+        let sound = [notice(sent, CEM), keyed(WITHDRAWAL, sent), aired(CEM, IN_2010)];
+        for record in sound {
+            for place in 378..RECORD {
+                let mut odd = record;
+                odd[place] = 1;
+                assert!(is_refused(odd), "byte {place} of kind {}", record[0]);
+            }
+        }
+    }
+
+    #[test]
+    fn due_headers_are_ordered_by_header_then_year() {
+        let board = [
+            notice(b"2010-04-05T18:00:30+00:00", TOR),
+            notice(b"2011-04-05T18:00:30+00:00", CEM),
+            notice(b"2012-04-04T18:00:30+00:00", CEM),
+            notice(b"2012-04-04T18:00:31+00:00", TOR),
+        ];
+        assert_eq!(rows(&board.concat()), Ok(vec![(1, 1), (2, 1), (0, 1), (3, 1)]));
+        assert_eq!(handed_out(&board), aired(CEM, IN_2011));
+    }
+
+    #[test]
+    fn a_header_of_several_years_is_handed_out_in_each() {
+        let mut board = [
+            notice(b"2010-04-05T18:00:30+00:00", CEM),
+            notice(b"2011-04-05T18:00:00+00:00", CEM),
+            notice(b"2011-04-05T18:00:59+00:00", CEM),
+            [0; RECORD],
+            [0; RECORD],
+        ]
+        .concat();
+        assert_eq!(rows(&board), Ok(vec![(0, 1), (1, 2)]));
+        assert_eq!(hand_out(&mut board), Ok(0));
+        assert_eq!(record(&board, 3), aired(CEM, IN_2010));
+        assert_eq!(rows(&board), Ok(vec![(1, 2)]));
+        assert_eq!(hand_out(&mut board), Ok(1));
+        assert_eq!(record(&board, 4), aired(CEM, IN_2011));
+        assert_eq!(hand_out(&mut board), Err(Refusal::NOTHING_DUE));
+    }
+
+    #[test]
+    fn an_aired_record_airs_its_own_year_alone() {
+        let one = notice(b"2010-04-05T18:00:30+00:00", CEM);
+        assert_eq!(rows(&[one, aired(CEM, IN_2011)].concat()), Ok(vec![(0, 1)]));
+        assert_eq!(rows(&[one, aired(CEM, IN_2010)].concat()), Ok(vec![]));
+    }
+
+    #[test]
+    fn a_withdrawal_of_one_year_leaves_the_other() {
+        let (first, second) = (b"2010-04-05T18:00:30+00:00", b"2011-04-05T18:00:30+00:00");
+        let board = [notice(first, CEM), notice(second, CEM), keyed(WITHDRAWAL, first)];
+        assert_eq!(rows(&board.concat()), Ok(vec![(1, 1)]));
+        assert_eq!(handed_out(&board), aired(CEM, IN_2011));
+    }
+
+    fn message(sent: &str, expires: &str) -> String {
+        format!(
+            "<alert xmlns=\"urn:oasis:names:tc:emergency:cap:1.2\"><identifier>I1</identifier>\
+             <sender>s</sender><sent>{sent}</sent><status>Actual</status>\
+             <msgType>Alert</msgType><scope>Public</scope><info><eventCode>\
+             <valueName>SAME</valueName><value>CEM</value></eventCode>\
+             <expires>{expires}</expires><area><geocode><valueName>SAME</valueName>\
+             <value>024031</value></geocode></area></info></alert>"
+        )
+    }
+
+    #[test]
+    fn a_message_is_offered_again_a_year_later() {
+        let first = message("2010-04-05T18:00:30+00:00", "2010-04-05T18:45:30+00:00");
+        let second = message("2011-04-05T18:00:30+00:00", "2011-04-05T18:45:30+00:00");
+        let mut board = [0; 4 * RECORD];
+        assert_eq!(offer(&mut board, first.as_bytes()), Ok(1));
+        assert_eq!(hand_out(&mut board), Ok(0));
+        assert_eq!(offer(&mut board, second.as_bytes()), Ok(1));
+        assert_eq!(offer(&mut board, second.as_bytes()), Ok(0));
+        assert_eq!(hand_out(&mut board), Ok(1));
+        assert_eq!(record(&board, 2), aired(CEM, IN_2010));
+        assert_eq!(record(&board, 3), aired(CEM, IN_2011));
+        assert_eq!(offer(&mut board, first.as_bytes()), Ok(0));
+        assert_eq!(hand_out(&mut board), Err(Refusal::NOTHING_DUE));
+    }
+
+    #[test]
+    fn the_year_is_that_of_sent_in_utc() {
+        let table = [
+            ("2012-12-31T23:30:00-01:00", "2013-01-01T00:15:00-01:00", "0010030", 2013),
+            ("2013-01-01T00:30:00+01:00", "2013-01-01T01:15:00+01:00", "3662330", 2012),
+            ("2011-12-31T23:59:59-14:59", "2012-01-01T00:44:59-14:59", "0011458", 2012),
+            ("2012-01-01T00:00:00+14:59", "2012-01-01T00:45:00+14:59", "3650901", 2011),
+        ];
+        for (sent, expires, moment, year) in table {
+            let mut board = [0; 2 * RECORD];
+            assert_eq!(offer(&mut board, message(sent, expires).as_bytes()), Ok(1), "{sent}");
+            assert_eq!(hand_out(&mut board), Ok(0), "{sent}");
+            let front = format!("ZCZC-CIV-CEM-024031+0045-{moment}-");
+            let wanted = aired(front.as_bytes(), u16::to_be_bytes(year));
+            assert_eq!(record(&board, 1), wanted, "{sent}");
+        }
+    }
 }

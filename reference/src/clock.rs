@@ -1,9 +1,14 @@
-//! Times: seconds since 2000 began in UTC, days of the year, and the period TTTT.
+//! Times: seconds since 2000 began in UTC, years and their days, and the period TTTT.
+
+use std::ops::RangeInclusive;
 
 use crate::octets::decimal;
 
 /// The first second after 2099.
 pub const END: u32 = 3_155_760_000;
+
+/// The years that end before it.
+pub const YEARS: RangeInclusive<u32> = 2000..=2099;
 
 const DAY: u32 = 86_400;
 const DAYS: [i64; 12] = [31, 28, 31, 30, 31, 30, 31, 31, 30, 31, 30, 31];
@@ -56,6 +61,27 @@ fn days_to_year(year: i64) -> i64 {
     365 * year + past.div_euclid(4) - past.div_euclid(100) + past.div_euclid(400)
 }
 
+/// The year of an instant and its day of the year, in UTC. In 2000 to 2099 every fourth year is
+/// a leap year, and the first of four.
+fn year_and_day(instant: u32) -> (u32, u32) {
+    let (fours, in_four_years) = (instant / DAY / 1461, instant / DAY % 1461);
+    let (year, day) = match in_four_years.checked_sub(366) {
+        None => (0, in_four_years),
+        Some(after_first) => (1 + after_first / 365, after_first % 365),
+    };
+    (2000 + fours * 4 + year, day + 1)
+}
+
+/// The year of an instant, in UTC.
+pub fn year(instant: u32) -> u32 {
+    year_and_day(instant).0
+}
+
+/// Whether a year has a day of this number.
+pub fn has_day(year: u32, day: u32) -> bool {
+    (1..=365 + u32::from(is_leap(year.into()))).contains(&day)
+}
+
 /// Day of the year, hour and minute.
 #[derive(Clone, Copy, Debug, PartialEq, Eq)]
 pub struct Moment {
@@ -65,11 +91,9 @@ pub struct Moment {
 }
 
 impl Moment {
-    /// The moment of an instant. In 2000 to 2099 every fourth year is a leap year.
     pub fn of(instant: u32) -> Moment {
-        let in_four_years = instant / DAY % 1461;
-        let day = if in_four_years < 366 { in_four_years } else { (in_four_years - 366) % 365 };
-        Moment { day: day + 1, hour: instant / 3600 % 24, minute: instant / 60 % 60 }
+        let (_, day) = year_and_day(instant);
+        Moment { day, hour: instant / 3600 % 24, minute: instant / 60 % 60 }
     }
 }
 
@@ -161,10 +185,32 @@ mod tests {
             let length = 365 + u32::from(is_leap(year));
             for day in 1..=length {
                 assert_eq!(Moment::of(instant).day, day, "in {year}");
+                assert_eq!(i64::from(super::year(instant)), year, "on day {day}");
+                assert_eq!(i64::from(super::year(instant + DAY - 1)), year, "on day {day}");
                 instant += DAY;
             }
         }
         assert_eq!(instant, END);
+    }
+
+    #[test]
+    fn years_are_those_of_utc() {
+        let year = |time| instant(time).map(super::year);
+        assert_eq!(year(b"2012-12-31T23:30:00-01:00"), Some(2013));
+        assert_eq!(year(b"2013-01-01T00:30:00+01:00"), Some(2012));
+        assert_eq!(year(b"2100-01-01T00:30:00+01:00"), Some(2099));
+        assert_eq!(year(b"1999-12-31T23:30:00-01:00"), Some(2000));
+    }
+
+    #[test]
+    fn leap_years_alone_have_a_day_366() {
+        for (year, has_it) in
+            [(2000, true), (2012, true), (2096, true), (2011, false), (2099, false)]
+        {
+            assert_eq!(has_day(year, 366), has_it, "{year}");
+            assert!(has_day(year, 1) && has_day(year, 365));
+            assert!(!has_day(year, 0) && !has_day(year, 367));
+        }
     }
 
     #[test]

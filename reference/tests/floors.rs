@@ -1,8 +1,11 @@
 //! The floors of a comparison: one that met a number or a kind of answer too seldom is refused.
 
+#[path = "floors/boards.rs"]
+mod boards;
 #[path = "../src/bin/compare/floors.rs"]
 mod floors;
 
+use boards::{hand_outs, lists, offers, unlike};
 use floors::{all_calls, number, Counts};
 
 /// How often a case and its answer come, and the kinds that no other has.
@@ -13,15 +16,15 @@ struct Answered {
     brings: &'static [&'static str],
 }
 
-fn hex(text: &str) -> String {
-    text.bytes().map(|b| format!("{b:02x}")).collect()
+fn hex(bytes: &[u8]) -> String {
+    bytes.iter().map(|b| format!("{b:02x}")).collect()
 }
 
 /// A case of a call about a message.
 fn about(call: &str, message: &str) -> String {
     match call {
-        "convert" => format!("convert {} 42 252 7200 1024", hex(message)),
-        _ => format!("canadian {} 7200 1024", hex(message)),
+        "convert" => format!("convert {} 42 252 7200 1024", hex(message.as_bytes())),
+        _ => format!("canadian {} 7200 1024", hex(message.as_bytes())),
     }
 }
 
@@ -63,7 +66,7 @@ impl Cases {
 /// Conversions that meet the floors.
 fn conversions() -> Cases {
     let mut cases = Cases { call: "convert", all: Vec::new() };
-    let said = |text: &str| format!("0 0 5a 0 - 0 {}", hex(text));
+    let said = |text: &str| format!("0 0 5a 0 - 0 {}", hex(text.as_bytes()));
     cases.put(800, &said("T"), &[]);
     cases.put(30, "0 0 5a 1 75 0 54", &["audio 1"]);
     cases.put(30, "0 0 5a 2 75 0 54", &[]);
@@ -122,7 +125,7 @@ const RANGES: [(u32, &str, &[&str]); 5] = [
 /// Cases of the Canadian mode that meet the floors.
 fn canadians() -> Cases {
     let mut cases = Cases { call: "canadian", all: Vec::new() };
-    let said = |text: &str| format!("0 0 0 - {}", hex(text));
+    let said = |text: &str| format!("0 0 0 - {}", hex(text.as_bytes()));
     cases.put(400, &said("T"), &[]);
     cases.put(300, &said("BT"), &["a broadcastText"]);
     cases.put(50, "0 0 1 75 54", &["audio 1"]);
@@ -146,9 +149,9 @@ fn canadians() -> Cases {
     cases
 }
 
-fn lists() -> Vec<(usize, String)> {
-    let answers = ["0 0 -", "0 1 3:1", "0 2 3:1,0:1", "0 1 3:2", "1 0 -", "2 0 -"];
-    answers.map(|answer| (100, answer.to_string())).to_vec()
+/// Cases of each call that has kinds, which meet its floors.
+fn all_cases() -> [Cases; 5] {
+    [conversions(), canadians(), offers(), hand_outs(), lists()]
 }
 
 fn faults(call: &str, answers: &[(usize, String)]) -> Vec<String> {
@@ -168,26 +171,17 @@ fn faults_of<'a>(
     counts.faults(call)
 }
 
-/// The faults of a comparison in which there is no such answer.
-fn faults_without(call: &str, mut answers: Vec<(usize, String)>, answer: &str) -> Vec<String> {
-    let length = answers.len();
-    answers.retain(|(_, other)| other != answer);
-    assert_eq!(answers.len() + 1, length, "{answer} is not among the answers.");
-    faults(call, &answers)
-}
-
 #[test]
 fn enough_of_each_passes() {
-    for Cases { call, all } in [conversions(), canadians()] {
+    for Cases { call, all } in all_cases() {
         let found = faults_of(call, all.iter().map(|a| (a.often, &a.case[..], &a.answer[..])));
         assert!(found.is_empty(), "{found:?}");
     }
-    assert!(faults("list", &lists()).is_empty());
 }
 
 #[test]
 fn a_kind_that_is_lacking_is_refused() {
-    for Cases { call, all } in [conversions(), canadians()] {
+    for Cases { call, all } in all_cases() {
         for (place, lacking) in all.iter().enumerate().filter(|(_, a)| !a.brings.is_empty()) {
             let others = all.iter().enumerate().filter(|(other, _)| *other != place);
             let others = others.map(|(_, a)| (a.often, &a.case[..], &a.answer[..]));
@@ -236,11 +230,21 @@ fn canadian_texts_that_are_all_broadcast_are_refused() {
 }
 
 #[test]
-fn lists_that_have_one_row_or_one_notice_in_each_are_refused() {
-    let found = faults_without("list", lists(), "0 2 3:1,0:1");
-    assert_eq!(found, ["list was compared 0 times with more than one row, not 37."]);
-    let found = faults_without("list", lists(), "0 1 3:2");
-    assert_eq!(found, ["list was compared 0 times with more than one notice in a row, not 7."]);
+fn lists_that_have_one_row_and_one_notice_in_each_are_refused() {
+    let found = faults("list", &[(1000, "0 1 3:1".to_string())]);
+    for what in ["more than one row, not 80", "more than one notice in a row, not 37"] {
+        let sentence = format!("list was compared 0 times with {what}.");
+        assert!(found.contains(&sentence), "{sentence}");
+    }
+}
+
+#[test]
+fn a_board_that_is_none_of_a_kind_is_not_counted() {
+    for (call, kind, case, answer) in unlike() {
+        let found = faults_of(call, [(1, &case[..], answer)].into_iter());
+        let sentence = format!("{call} was compared 0 times with {kind}, not 1.");
+        assert!(found.contains(&sentence), "{sentence}");
+    }
 }
 
 #[test]
@@ -299,7 +303,9 @@ fn counts_are_printed_by_number_and_by_kind() {
     for answer in ["0 2 3:1,0:2", "0 0 -", "2 0 -"] {
         assert!(counts.add("list", answer));
     }
-    let with = "  with  more than one notice in a row: 1, more than one row: 1";
-    assert_eq!(counts.lines("list"), ["list: 3 compared", "  by number  0: 2, 2: 1", with]);
+    let lines = counts.lines("list");
+    assert_eq!(lines[..2], ["list: 3 compared", "  by number  0: 2, 2: 1"]);
+    let with = "more than one notice in a row: 1, more than one row: 1";
+    assert!(lines[2].starts_with("  with  ") && lines[2].contains(with), "{}", lines[2]);
     assert_eq!(counts.lines("read"), ["read: 0 compared"]);
 }

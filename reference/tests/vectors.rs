@@ -34,6 +34,11 @@ fn characters_beyond_ascii_are_answered() {
 }
 
 #[test]
+fn headers_with_their_years_are_answered() {
+    check(include_str!("../../tests/vectors/years.txt"));
+}
+
+#[test]
 fn the_sample_is_answered() {
     check(include_str!("../../tests/vectors/sample.txt"));
 }

@@ -5,6 +5,8 @@
 
 #[path = "generate/boards.rs"]
 mod boards;
+#[path = "generate/broken.rs"]
+mod broken;
 #[path = "generate/canadian.rs"]
 mod canadian;
 #[path = "generate/chance.rs"]
@@ -23,6 +25,8 @@ mod messages;
 mod pairs;
 #[path = "generate/read.rs"]
 mod read;
+#[path = "generate/records.rs"]
+mod records;
 #[path = "generate/render.rs"]
 mod render;
 #[path = "generate/sound.rs"]

@@ -7,9 +7,12 @@ mod kinds;
 use std::collections::BTreeMap;
 use std::fmt::Display;
 
+use self::kinds::boards::NewYear::{Before, Behind};
+use self::kinds::boards::{NOTICE, WITHDRAWAL};
 use self::kinds::{number_in, Seen};
 
-/// How many of 1,000 answers of a call. Each is about half of what the generator makes.
+/// How many of 1,000 answers of a call. Each is about half of what the generator makes; of a kind
+/// that several calls share, half of what it makes of that call which has the fewest.
 type Floor = usize;
 
 /// What is seen in a case and its answer, and whether it is.
@@ -19,7 +22,30 @@ struct Call {
     name: &'static str,
     numbers: &'static [(u32, Floor)],
     kinds: &'static [Kind],
+    /// Those of the board that is lent.
+    of_boards: &'static [Kind],
 }
+
+impl Call {
+    fn all_kinds(&self) -> impl Iterator<Item = &'static Kind> {
+        self.kinds.iter().chain(self.of_boards)
+    }
+}
+
+/// Kinds of boards; what is refused is refused for this alone.
+const BOARDS: &[Kind] = &[
+    ("an aired record without a year refused", 1, |seen| seen.refuses_year(0)),
+    ("an aired record of 1999 refused", 1, |seen| seen.refuses_year(1999)),
+    ("an aired record of 2000 taken", 6, |seen| seen.takes_year(2000)),
+    ("an aired record of 2099 taken", 3, |seen| seen.takes_year(2099)),
+    ("an aired record of 2100 refused", 1, |seen| seen.refuses_year(2100)),
+    ("a year of exchanged bytes refused", 2, |seen| seen.refuses_exchanged()),
+    ("an aired record of day 366 refused", 1, |seen| seen.refuses_day_366()),
+    ("an aired record of day 366 taken", 13, |seen| seen.takes_day_366()),
+    ("a byte behind a year refused", 1, |seen| seen.refuses_behind_year()),
+    ("a year in a notice refused", 1, |seen| seen.refuses_year_in(NOTICE)),
+    ("a year in a withdrawal refused", 1, |seen| seen.refuses_year_in(WITHDRAWAL)),
+];
 
 #[rustfmt::skip]
 const CALLS: [Call; 8] = [
@@ -59,6 +85,7 @@ const CALLS: [Call; 8] = [
             ("number 13 for a character outside the value's range", 2, |seen| seen.refuses_wide(13)),
             ("number 14 for a character outside the value's range", 3, |seen| seen.refuses_wide(14)),
         ],
+        of_boards: &[],
     },
     Call {
         name: "canadian",
@@ -86,31 +113,58 @@ const CALLS: [Call; 8] = [
             ("audio behind a uri with a character outside its range", 13, |seen| seen.passes_uri(true)),
             ("number 7 for a character outside the value's range", 11, |seen| seen.refuses_wide(7)),
         ],
+        of_boards: &[],
     },
     Call {
         name: "offer",
         numbers: &[
-            (0, 235), (1, 45), (4, 3), (5, 20), (6, 5), (7, 30), (8, 2), (9, 2), (10, 7),
-            (11, 8), (12, 4), (13, 4), (14, 7), (15, 115),
+            (0, 235), (1, 49), (4, 3), (5, 20), (6, 5), (7, 30), (8, 2), (9, 2), (10, 7),
+            (11, 8), (12, 4), (13, 4), (14, 6), (15, 112),
         ],
         kinds: &[
             ("characters of several bytes taken", 152, |seen| seen.takes_wide()),
             ("malformed UTF-8 refused", 5, |seen| seen.is_malformed()),
             ("number 7 for a character outside the value's range", 5, |seen| seen.refuses_wide(7)),
             ("number 10 for a character outside the value's range", 1, |seen| seen.refuses_wide(10)),
+            ("a notice added whose header is held of another year", 17, |seen| seen.adds_held()),
+            ("a notice added whose header is aired in another year", 7, |seen| seen.adds_aired()),
+            ("a notice added just behind a new year", 14, |seen| seen.adds_near(Before)),
+            ("a notice added just before a new year", 13, |seen| seen.adds_near(Behind)),
         ],
+        of_boards: BOARDS,
     },
-    Call { name: "handout", numbers: &[(0, 135), (1, 90), (15, 110), (16, 150)], kinds: &[] },
+    Call {
+        name: "handout",
+        numbers: &[(0, 140), (1, 100), (15, 106), (16, 150)],
+        kinds: &[
+            ("a header due in two years", 11, |seen| seen.hands_out_of_two_years()),
+            ("a header aired in another year", 17, |seen| seen.hands_out_aired()),
+            ("a header before one of an earlier year", 17, |seen| seen.hands_out_by_header()),
+            ("a header of day 366", 9, |seen| seen.hands_out_day_366()),
+            ("a header just behind a new year", 20, |seen| seen.hands_out_near(Before)),
+            ("a header just before a new year", 12, |seen| seen.hands_out_near(Behind)),
+            ("nothing due, and a header aired in two years", 7, |seen| seen.has_aired_two_years()),
+        ],
+        of_boards: BOARDS,
+    },
     Call {
         name: "list",
-        numbers: &[(0, 350), (1, 45), (2, 95)],
+        numbers: &[(0, 355), (1, 53), (2, 90)],
         kinds: &[
-            ("more than one row", 75, |seen| seen.has_rows()),
-            ("more than one notice in a row", 15, |seen| seen.counts_several()),
+            ("more than one row", 80, |seen| seen.has_rows()),
+            ("more than one notice in a row", 37, |seen| seen.counts_several()),
+            ("a header due in two years", 26, |seen| seen.lists_two_years()),
+            ("a header due in two years, in one by more than one notice", 10, |seen| seen.counts_several_of_two_years()),
+            ("a header aired in another year", 28, |seen| seen.lists_aired()),
+            ("a header withdrawn in another year", 7, |seen| seen.lists_withdrawn()),
+            ("another order than that of years, and a header due in two", 12, |seen| seen.lists_by_header() && seen.lists_two_years()),
+            ("another order than that of years, each header due in one", 20, |seen| seen.lists_by_header() && !seen.lists_two_years()),
+            ("rows refused that years alone make too few", 5, |seen| seen.is_short_by_years()),
         ],
+        of_boards: BOARDS,
     },
-    Call { name: "read", numbers: &[(0, 240), (17, 255)], kinds: &[] },
-    Call { name: "write", numbers: &[(0, 210), (2, 70), (3, 55), (17, 155)], kinds: &[] },
+    Call { name: "read", numbers: &[(0, 240), (17, 255)], kinds: &[], of_boards: &[] },
+    Call { name: "write", numbers: &[(0, 210), (2, 70), (3, 55), (17, 155)], kinds: &[], of_boards: &[] },
     Call {
         name: "program",
         numbers: &[
@@ -123,6 +177,7 @@ const CALLS: [Call; 8] = [
             ("a character of 4 bytes in the text", 71, |seen| seen.has_character(4)),
             ("malformed UTF-8 refused", 21, |seen| seen.is_malformed()),
         ],
+        of_boards: &[],
     },
 ];
 
@@ -158,7 +213,7 @@ impl Counts {
             return false;
         };
         *self.numbers.entry((call.name, seen.number())).or_default() += 1;
-        for (kind, _, is_seen) in call.kinds {
+        for (kind, _, is_seen) in call.all_kinds() {
             *self.kinds.entry((call.name, kind)).or_default() += usize::from(is_seen(&seen));
         }
         true
@@ -189,7 +244,7 @@ impl Counts {
             call.numbers.iter().map(|(n, floor)| (format!("number {n}"), *floor, count(*n)));
         let count = |kind| self.kinds.get(&(call.name, kind)).copied().unwrap_or(0);
         let kinds =
-            call.kinds.iter().map(|(kind, floor, _)| (kind.to_string(), *floor, count(*kind)));
+            call.all_kinds().map(|(kind, floor, _)| (kind.to_string(), *floor, count(*kind)));
         let least = |floor: Floor| (compared * floor / 1000).max(1);
         let short = numbers.chain(kinds).filter(|(_, floor, count)| *count < least(*floor));
         let sentence = |(what, floor, count)| {

@@ -1,10 +1,19 @@
 //! Kinds of answers: by what a case asks, and by what is answered to it.
 
+#[path = "boards.rs"]
+pub mod boards;
+#[path = "years.rs"]
+mod years;
+
+use self::boards::Board;
+
 /// A case and the answer to it.
 pub struct Seen<'a> {
     asked: Vec<&'a str>,
     answer: Vec<&'a str>,
     number: u32,
+    /// What the case lends of these, nothing where there is none.
+    board: Board,
     message: Vec<u8>,
     /// The audio choice of a conversion in either mode that gives a text.
     audio: Option<&'a str>,
@@ -18,8 +27,12 @@ impl<'a> Seen<'a> {
         let asked: Vec<&str> = case.split(' ').collect();
         let number = number_in(asked[0], answer)?;
         let answer: Vec<&str> = answer.split(' ').collect();
-        let place = if asked[0] == "offer" { 2 } else { 1 };
-        let message = asked.get(place).map_or(Vec::new(), |message| bytes(message));
+        let (board, message) = match asked[..] {
+            ["offer", board, message] => (bytes(board), bytes(message)),
+            ["handout", board] | ["list", board, _] => (bytes(board), Vec::new()),
+            ["convert" | "canadian" | "program", message, ..] => (Vec::new(), bytes(message)),
+            _ => (Vec::new(), Vec::new()),
+        };
         let (audio, text) = match (asked[0], &answer[..]) {
             ("convert", ["0", _, header, audio, _, _, text]) if *header != "-" => {
                 (Some(*audio), bytes(text))
@@ -28,7 +41,7 @@ impl<'a> Seen<'a> {
             ("program", [printed]) if number == 0 => (None, bytes(printed)),
             _ => (None, Vec::new()),
         };
-        Some(Seen { asked, answer, number, message, audio, text })
+        Some(Seen { asked, answer, number, board: Board::of(board), message, audio, text })
     }
 
     pub fn number(&self) -> u32 {

@@ -4,7 +4,8 @@ pub const END: i64 = 3_155_760_000;
 
 const DAY: i64 = 86_400;
 
-fn year_length(year: i64) -> i64 {
+/// How many days a year has.
+pub fn year_length(year: i64) -> i64 {
     let leap = year % 4 == 0 && (year % 100 != 0 || year % 400 == 0);
     365 + i64::from(leap)
 }
@@ -21,6 +22,26 @@ fn year_and_day(mut day: i64) -> (i64, i64) {
         year += 1;
     }
     (year, day)
+}
+
+/// The UTC instant of a day of a year, from 1, and a second of that day.
+pub fn instant(year: i64, day: i64, second: i64) -> i64 {
+    let days: i64 = (2000..year).map(year_length).sum();
+    (days + day - 1) * DAY + second
+}
+
+/// The year of a UTC instant.
+pub fn year_of(utc: i64) -> i64 {
+    year_and_day(utc.div_euclid(DAY)).0
+}
+
+/// A UTC instant with the same day of the year and the same time in another year near it, of 2000
+/// to 2099.
+pub fn in_another_year(utc: i64) -> i64 {
+    let (year, day) = year_and_day(utc.div_euclid(DAY));
+    let has_it = |other: &i64| (2000..2100).contains(other) && day < year_length(*other);
+    let other = [year + 1, year - 1, year + 4, year - 4].into_iter().find(has_it).unwrap_or(year);
+    instant(other, day + 1, utc.rem_euclid(DAY))
 }
 
 /// The time of a UTC instant, in seconds since 2000, in a zone of so many minutes.
