@@ -16,7 +16,7 @@ use native.Mathlib.Numerals.{add-one}
 use native.Mathlib.Omega.{arith}
 use lib.Dec.{eqb}
 use lib.ListN.{length, getD, take, drop, set, drop-of-length-le, length-drop, length-map, length-set}
-use lib.Seq.{sets, sets-eq, drop-drop, take-take, take-at, getD-set-same, getD-set-other}
+use lib.Seq.{sets, sets-eq, drop-drop, take-at, getD-set-same, getD-set-other}
 use borrow.Author.Tests.{eq-eqb, ne-eqb}
 use Rattle.octets.specs.declared.Order.{Order}
 use Rattle.octets.specs.declared.Order.the-variants.{Less, Same, More}
@@ -34,18 +34,10 @@ use Rattle.ledger.proofs.Dues.{in-due}
 use Rattle.ledger.proofs.Scans.{Best, nothing, first, best, best-same, best-first, best-less, best-equal, best-more, after-start, after-next, row-index, row-count, ordered-length}
 use Rattle.slots.specs.WorkingSlots.{rec}
 use Rattle.slots.specs.Slots.{recs}
-use Rattle.slots.proofs.Records.{recs-length, recs-get, recs-drop, recs-snoc, in-recs, drop-take}
+use Rattle.slots.proofs.Records.{recs-length, recs-get, recs-drop, recs-snoc, in-recs, rec-part}
 use Rattle.board.specs.WorkingMarks.{Marks}
 
 -- ---- the fields of record i
-
-rec-part : (s : List ℕ) (i o w : ℕ) → o + w ≤ 384 → take (i * 384 + (o + w) - (i * 384 + o)) (drop (i * 384 + o) s) ≡ take w (drop o (rec i s))
-rec-part s i o w h =
-    ap₂ take (let q : i * 384 + (o + w) - (i * 384 + o) ≡ w = omega arith in q) (sym (drop-drop o (i * 384) s))
-    ∙ sym (
-    ap (λ (k : ℕ). take w (drop o (take k (drop (i * 384) s)))) (let q : 384 ≡ o + (384 - o) = omega arith in q)
-    ∙ ap (take w) (drop-take o (384 - o) (drop (i * 384) s))
-    ∙ take-take w (384 - o) (drop o (drop (i * 384) s)) (omega arith))
 
 pub key-part : (s : List ℕ) (i : ℕ) → take (i * 384 + 133 - (i * 384 + 1)) (drop (i * 384 + 1) s) ≡ key (rec i s)
 unfolding key

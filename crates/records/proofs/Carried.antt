@@ -2,6 +2,7 @@
 --     header-dated, year-dated          what it is made of stands in it
 --     year-late                         past 2099 no year has begun
 --     carried-is, carried-other, ..     that of a notice, and of another record
+--     front-is                          it begins with the record's header
 --     airs-ok                           the aired record of what a notice carries keeps its rules
 use Prim.Native.Nat.{ℕ, suc, _+_, _*_, _/_, _%_, _≤_, _<_}
 use mathlib.Core.Bool.{Bool, true}
@@ -23,6 +24,7 @@ use Rattle.clock.proofs.Stamps.{stamp-fits}
 use Rattle.header.specs.Body.{bodyForm, bodyOf}
 use Rattle.records.specs.Record.{kind, key, sentIn, header, airedIn, headerOf, yearIn, be2, dated, carried, filledIn, filledTests, zeroFilled, headerOk, stampIn, yearTests, yearOk, recordOk, notice, aired}
 use Rattle.records.proofs.Stamps.{stamp-told}
+use Rattle.records.proofs.Judging.{aired-header}
 use Rattle.records.proofs.Records.{record-long, of-notice, key-low, key-notice, header-notice, kind-notice, header-long, made-aired}
 
 -- ---- what it is made of
@@ -76,9 +78,14 @@ pub carried-long : (r : List ℕ) → length r ≡ 384 → length (carried r) �
 unfolding carried airedIn
 carried-long r l = either-way (λ (g : List ℕ). length g ≡ 245) (eqb (kind r) 1) (dated (key r) (header r)) (airedIn r) (λ _. dated-long (key r) (header r) (header-long r l)) (λ _. length-part r 133 245 (omega arith))
 
+-- it begins with the record's header
+pub front-is : (r : List ℕ) → length r ≡ 384 → headerOf (carried r) ≡ header r
+unfolding carried
+front-is r l = either-way (λ (g : List ℕ). headerOf g ≡ header r) (eqb (kind r) 1) (dated (key r) (header r)) (airedIn r) (λ _. header-dated (key r) (header r) (header-long r l)) (λ _. aired-header r)
+
 module _ (r : List ℕ) (rule : recordOk r ≡ true) (e : kind r ≡ 1) where
   header-is : headerOf (carried r) ≡ header r
-  header-is = ap headerOf (carried-is r e) ∙ header-dated (key r) (header r) (header-long r (record-long r rule))
+  header-is = front-is r (record-long r rule)
 
   low : sentIn (key r) < span
   low = key-low (key r) (of-notice r rule e .0)

@@ -130,7 +130,7 @@ dated-decides g read r z y e lo hi b h =
 
 -- ---- an aired record
 
-aired-header : (r : List ℕ) → headerOf (airedIn r) ≡ header r
+pub aired-header : (r : List ℕ) → headerOf (airedIn r) ≡ header r
 unfolding headerOf airedIn header
 aired-header r = take-take 243 245 (drop 133 r) (omega arith)
 

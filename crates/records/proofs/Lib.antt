@@ -1,7 +1,7 @@
 pub mod ZeroFill
 pub mod Stamps
 pub mod Records
+pub mod Judging
 pub mod Carried
 pub mod Fields
 pub mod Making
-pub mod Judging

@@ -16,6 +16,7 @@ use lib.Seq.{sets, sets-eq, take-append-le, take-take, take-at, drop-at, drop-co
 use Rattle.octets.specs.declared.Order.{Order}
 use Rattle.octets.specs.declared.Order.the-variants.{Less, Same, More}
 use Rattle.octets.specs.Order.{cmp, choose}
+use Rattle.octets.proofs.Parts.{length-part}
 use Rattle.records.specs.Record.{kind}
 use Rattle.ledger.specs.Sorted.{In, has, Sorted, insert, insertAll}
 use Rattle.ledger.proofs.Sorts.{in-insertAll, insertAll-sorted, insert-held, insert-new, insertAll-grows, insertAll-append, has-in}
@@ -50,6 +51,9 @@ pub in-recs : (r : List ℕ) (n : ℕ) (s : List ℕ) → n * 384 ≤ length s �
 in-recs r zero s h m = absurd m
 in-recs r (suc n) s h m = ⊎-elim (λ p. ap length p ∙ length-take-le 384 s (omega arith)) (λ k. in-recs r n (drop 384 s) (rw length-drop (omega arith)) k) m
 
+pub rec-long : (s : List ℕ) (i : ℕ) → (i + 1) * 384 ≤ length s → length (rec i s) ≡ 384
+rec-long s i h = length-part s (i * 384) 384 (omega arith)
+
 -- the slice of a record, as a range takes it
 pub part-rec : (s : List ℕ) (i : ℕ) → take (i * 384 + 384 - i * 384) (drop (i * 384) s) ≡ rec i s
 part-rec s i = ap (λ (k : ℕ). take k (drop (i * 384) s)) (let q : i * 384 + 384 - i * 384 ≡ 384 = omega arith in q)
@@ -63,6 +67,15 @@ pub drop-take : (a m : ℕ) (s : List ℕ) → drop a (take (a + m) s) ≡ take 
 drop-take zero m s = ap (λ (k : ℕ). take k s) (zero-add m)
 drop-take (suc a) m [] = ap (drop (suc a)) (take-nil (suc a + m)) ∙ sym (take-nil m)
 drop-take (suc a) m (x ∷ s) = rw suc-add (drop-take a m s)
+
+-- w bytes from byte o of record i on
+pub rec-part : (s : List ℕ) (i o w : ℕ) → o + w ≤ 384 → take (i * 384 + (o + w) - (i * 384 + o)) (drop (i * 384 + o) s) ≡ take w (drop o (rec i s))
+rec-part s i o w h =
+    ap₂ take (let q : i * 384 + (o + w) - (i * 384 + o) ≡ w = omega arith in q) (sym (drop-drop o (i * 384) s))
+    ∙ sym (
+    ap (λ (k : ℕ). take w (drop o (take k (drop (i * 384) s)))) (let q : 384 ≡ o + (384 - o) = omega arith in q)
+    ∙ ap (take w) (drop-take o (384 - o) (drop (i * 384) s))
+    ∙ take-take w (384 - o) (drop o (drop (i * 384) s)) (omega arith))
 
 pub flat-take : (k n : ℕ) (s : List ℕ) → k ≤ n → flat (take k (recs n s)) ≡ take (k * 384) s
 flat-take zero n s h = refl

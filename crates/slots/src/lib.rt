@@ -8,7 +8,7 @@ ghost use lib.ListN.{length, take, drop};
 ghost use lib.Seq.{slice};
 ghost use Rattle.octets.specs.Bytes.{same};
 ghost use Rattle.octets.specs.Order.{cmp};
-ghost use Rattle.records.specs.Record.{carried, aired};
+ghost use Rattle.records.specs.Record.{header, carried, aired};
 ghost use Rattle.ledger.specs.Sorted.{has, Sorted, insert, insertAll};
 ghost use Rattle.slots.specs.WorkingSlots.{rec, flat, placeOf};
 ghost use Rattle.slots.specs.Slots.{recs};
@@ -143,7 +143,18 @@ pub fn add_all(s: &mut [u8], n: usize, batch: &[u8], m: usize) -> usize
     k
 }
 
-// ---- the headers of records
+// ---- the headers of records: each with its year, which is worked out only where the headers alone are the same
+
+// The header of record i, without its year.
+fn front_at(s: &[u8], i: usize) -> &[u8]
+    requires { ⌜ (i + 1) * 384 ≤ length (now s) ⌝ }
+    ensures { λ r. ⌜ now r ≡ header (rec i (now (s .entry))) ⌝ }
+{
+    let at = i * Record::SIZE;
+    let from = at + Record::HEADER;
+    let to = at + Record::ZEROS;
+    &s[from..to]
+}
 
 // The header of record i.
 pub fn header_at(s: &[u8], i: usize) -> [u8; Record::CARRIED]
@@ -153,8 +164,8 @@ pub fn header_at(s: &[u8], i: usize) -> [u8; Record::CARRIED]
     records::carried_by(record_at(s, i))
 }
 
-// How a header stands to that of record i.
-pub fn compare_header(h: &[u8], s: &[u8], i: usize) -> Order
+// How a header stands to that of record i, as both are written out.
+fn compare_whole(h: &[u8], s: &[u8], i: usize) -> Order
     requires { ⌜ (i + 1) * 384 ≤ length (now s) ⌝ }
     ensures { λ o. ⌜ o ≡ cmp (now (h .entry)) (carried (rec i (now (s .entry)))) ⌝ }
 {
@@ -162,13 +173,31 @@ pub fn compare_header(h: &[u8], s: &[u8], i: usize) -> Order
     octets::compare(h, &at)
 }
 
+// How a header stands to that of record i.
+pub fn compare_header(h: &[u8], s: &[u8], i: usize) -> Order
+    requires { ⌜ (i + 1) * 384 ≤ length (now s) ⌝ }
+    ensures { λ o. ⌜ o ≡ cmp (now (h .entry)) (carried (rec i (now (s .entry)))) ⌝ }
+{
+    match octets::compare(h, front_at(s, i)) {
+        Order::Less => Order::Less,
+        Order::Same => compare_whole(h, s, i),
+        Order::More => compare_whole(h, s, i),
+    }
+}
+
 // How the header of record i stands to that of record j.
 pub fn compare_headers(s: &[u8], i: usize, j: usize) -> Order
     requires { ⌜ ((i + 1) * 384 ≤ length (now s)) × ((j + 1) * 384 ≤ length (now s)) ⌝ }
     ensures { λ o. ⌜ o ≡ cmp (carried (rec i (now (s .entry)))) (carried (rec j (now (s .entry)))) ⌝ }
 {
-    let h = header_at(s, i);
-    compare_header(&h, s, j)
+    match octets::compare(front_at(s, i), front_at(s, j)) {
+        Order::Less => Order::Less,
+        Order::More => Order::More,
+        Order::Same => {
+            let h = header_at(s, i);
+            compare_whole(&h, s, j)
+        }
+    }
 }
 
 // Whether the two are the same.
@@ -176,6 +205,9 @@ pub fn same_header(s: &[u8], i: usize, j: usize) -> bool
     requires { ⌜ ((i + 1) * 384 ≤ length (now s)) × ((j + 1) * 384 ≤ length (now s)) ⌝ }
     ensures { λ r. ⌜ r ≡ same (carried (rec i (now (s .entry)))) (carried (rec j (now (s .entry)))) ⌝ }
 {
+    if !octets::equal(front_at(s, i), front_at(s, j)) {
+        return false;
+    }
     let g = header_at(s, i);
     let h = header_at(s, j);
     octets::equal(&g, &h)

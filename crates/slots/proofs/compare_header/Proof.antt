@@ -1,22 +1,59 @@
--- With the header that the record carries.
-use mathlib.Core.Path.{ap, _∙_}
+-- Where it is before the header alone, it is before the header with its year.
+use mathlib.Core.Path.{sym, ap, _∙_}
 use Rattle.octets.specs.Order.{cmp}
+use Rattle.slots.specs.WorkingSlots.{rec}
+use Rattle.slots.proofs.Records.{rec-long}
+use Rattle.slots.proofs.Headers.{front-less}
 use borrow.Author.Needs.{needs}
 use Rattle.slots.proofs.compare_header.Statement.{statement}
 use Rattle.slots.proofs.compare_header.Tie as tie
 
-header-at-requires : tie.Need-header-at-requires
-header-at-requires c κs = search needs
-
-slice-aggregate-compare : tie.Need-slice-aggregate-compare
-slice-aggregate-compare c = search needs
+front-at-requires : tie.Need-front-at-requires
+front-at-requires c κs = search needs
 
 compare-requires : tie.Need-compare-requires
 compare-requires c κs = search needs
 
+enum-told : tie.Need-enum-told
+enum-told c = search needs
+
+enum-told-2 : tie.Need-enum-told-2
+enum-told-2 c = search needs
+
+compare-whole-requires : tie.Need-compare-whole-requires
+compare-whole-requires c κs = search needs
+
+enum-told-3 : tie.Need-enum-told-3
+enum-told-3 c = search needs
+
+compare-whole-requires-2 : tie.Need-compare-whole-requires-2
+compare-whole-requires-2 c κs = search needs
+
 returns : tie.Need-returns
-returns c = c .compare .ensures ∙ ap (cmp (c .before .before .before .before .before .args .h .now)) (c .before .before .header-at .ensures)
+returns c =
+    let s = c .before .before .before .before .before .before in
+    let a = s .args in
+    let compared = c .before .before in
+    sym (front-less (a .h .now) (rec (a .i) (a .s .now)) (rec-long (a .s .now) (a .i) (s .pre))
+    (ap (cmp (a .h .now)) (sym (compared .before .front-at .ensures)) ∙ sym (compared .compare .ensures) ∙ c .enum-told .given .1))
+
+returns-2 : tie.Need-returns-2
+returns-2 c = search needs
+
+returns-3 : tie.Need-returns-3
+returns-3 c = search needs
 
 pub compare-header-spec : {M : Type 1} → statement M
 compare-header-spec =
-    tie.close (tie.spec header-at-requires slice-aggregate-compare compare-requires returns)
+    tie.close
+    (tie.spec
+    front-at-requires
+    compare-requires
+    enum-told
+    enum-told-2
+    compare-whole-requires
+    enum-told-3
+    compare-whole-requires-2
+    returns
+    returns-2
+    returns-3)

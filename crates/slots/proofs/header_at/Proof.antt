@@ -1,10 +1,8 @@
 -- That which its record carries.
-use Prim.Native.Nat.{_*_}
 use mathlib.Core.Path.{ap, _∙_}
-use native.Mathlib.Omega.{arith}
 use lib.ListN.{length}
-use Rattle.octets.proofs.Parts.{length-part}
 use Rattle.records.specs.Record.{carried}
+use Rattle.slots.proofs.Records.{rec-long}
 use borrow.Author.Needs.{needs}
 use Rattle.slots.proofs.header_at.Statement.{statement}
 use Rattle.slots.proofs.header_at.Tie as tie
@@ -13,7 +11,7 @@ record-at-requires : tie.Need-record-at-requires
 record-at-requires c κs = search needs
 
 carried-by-requires : tie.Need-carried-by-requires
-carried-by-requires c κs = ap length (c .record-at .ensures) ∙ length-part (c .before .before .args .s .now) (c .before .before .args .i * 384) 384 (omega (arith, c .before .before .pre))
+carried-by-requires c κs = ap length (c .record-at .ensures) ∙ rec-long (c .before .before .args .s .now) (c .before .before .args .i) (c .before .before .pre)
 
 returns : tie.Need-returns
 returns c = c .carried-by .ensures ∙ ap carried (c .before .record-at .ensures)
