@@ -15,7 +15,7 @@ use Rattle.demands.specs.Message.{isQuiet, wholeOf, wholeInCanada}
 use Rattle.demands.specs.Board.{dueHeaders}
 use Rattle.demands.specs.Numbers.{noneApplies, conversionRows, canadianRows, isBoard, emptiesIn}
 use Rattle.demands.specs.Runs.{afterOffers, handOuts}
-use Rattle.demands.specs.StandIns.{sample, other, bench, datedOf, noneHeld, oneHeld, twoDue, nothingAfterFirst}
+use Rattle.demands.specs.StandIns.{sample, other, bench, sampleDated, noneHeld, oneHeld, twoDue, nothingAfterFirst}
 use Rattle.demands.proofs.Opens.{computing}
 
 -- ---- conversions
@@ -102,10 +102,10 @@ pub two-empty : emptiesIn twoDue ≡ 2
 unfolding computing
 two-empty = refl
 
-pub both-due : dueHeaders (boardOf twoDue) ≡ datedOf "CEM" ∷ (datedOf "TOR" ∷ [])
+pub both-due : dueHeaders (boardOf twoDue) ≡ sampleDated "CEM" ∷ (sampleDated "TOR" ∷ [])
 unfolding computing
 both-due = refl
 
-pub only-first : handOuts nothingAfterFirst 2 twoDue ≡ datedOf "CEM" ∷ []
+pub only-first : handOuts nothingAfterFirst 2 twoDue ≡ sampleDated "CEM" ∷ []
 unfolding computing
 only-first = refl

@@ -26,7 +26,7 @@ use Rattle.demands.specs.Calls.{Calls, library}
 use Rattle.demands.specs.Message.{isQuiet, wholeOf, wholeInCanada}
 use Rattle.demands.specs.Numbers.{noneApplies, conversionRows}
 use Rattle.demands.specs.Demands.{Demand1, Demand2, Demand3, Demands}
-use Rattle.demands.specs.StandIns.{sample, other, bench, noneHeld, oneHeld, twoDue, weeklyDue, datedOf}
+use Rattle.demands.specs.StandIns.{sample, other, bench, noneHeld, oneHeld, twoDue, weeklyDue, sampleDated}
 use Rattle.demands.specs.StandIns.{alwaysRefuses, refusesInCanada, oneHeader, writesNothing, inventedCount, nothingAfterFirst, forgetsYears, SameAnswers, careful}
 use Rattle.demands.proofs.Samples.{sample-taken, sample-loud, sample-whole, sample-taken-in-canada, sample-in-canada, other-taken, other-loud, other-header}
 use Rattle.demands.proofs.Samples.{first-offer, second-offer, none-filled, one-filled, two-keeps, two-empty, both-due, only-first}
@@ -109,7 +109,7 @@ invented-count-rejected count d =
 
 pub nothing-after-first-rejected : Demand3 nothingAfterFirst → ⊥
 nothing-after-first-rejected d =
-    let each : datedOf "CEM" ∷ [] ≡ take (min 2 2) (datedOf "CEM" ∷ (datedOf "TOR" ∷ [])) =
+    let each : sampleDated "CEM" ∷ [] ≡ take (min 2 2) (sampleDated "CEM" ∷ (sampleDated "TOR" ∷ [])) =
     sym only-first ∙ (d .in-order twoDue two-keeps 2 ∙ ap₂ (λ (n : ℕ) (hs : List (List ℕ)). take (min 2 n) hs) two-empty both-due) in
     let c : _≡_ {A = ℕ} 1 2 = ap length each in
     omega (arith, c)

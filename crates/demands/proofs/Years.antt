@@ -1,6 +1,6 @@
 -- Headers with their years, computed.
 --     first-week .. second-test     the Required Weekly Test of day 065 in two years: offered, handed out, offered, handed out again
---     weekly-given, weekly-rows     both are handed out, each with its year; both are listed
+--     weekly-rows                   a row for each year
 --     years-judged                  which years an aired record may have; a notice has none
 --     header-first                  headers are ordered by header, then year
 --     header-then-year              and so are any two, as numbers
@@ -20,8 +20,7 @@ use Rattle.records.specs.Record.{keyOf, notice}
 use Rattle.board.specs.WorkingRules.{encode}
 use Rattle.demands.specs.Calls.{library}
 use Rattle.demands.specs.Numbers.{lowestIn, handOutRows, isBoard}
-use Rattle.demands.specs.Runs.{offers, handsOut, handedOut}
-use Rattle.demands.specs.StandIns.{weekly2010, weekly2011, weeklyHeader, weeklyIn, weeklyNotice, weeklyAired, weeklyDue, forgetsYears}
+use Rattle.demands.specs.StandIns.{weekly2010, weekly2011, weeklyHeader, weeklyNotice, weeklyAired, weeklyDue, forgetsYears}
 use Rattle.demands.proofs.Opens.{computing}
 
 -- ---- the weekly test
@@ -47,10 +46,6 @@ second-week = refl
 pub second-test : library .handing weeklyDue ≡ record { answer = record { number = 0; index = 1 }; bytes = encode 1536 (n2010 ∷ n2011 ∷ weeklyAired 7 218 ∷ weeklyAired 7 219 ∷ []) }
 unfolding computing
 second-test = refl
-
-pub weekly-given : handedOut library (offers weekly2010 ∷ handsOut ∷ offers weekly2011 ∷ handsOut ∷ []) (replicate 1536 0) ≡ weeklyIn 7 218 ∷ weeklyIn 7 219 ∷ []
-unfolding computing
-weekly-given = refl
 
 -- a second notice of 2011, of another message, carries the same header with its year
 pub weekly-rows : library .listing (encode 1536 (n2010 ∷ n2011 ∷ notice (keyOf 352749630 (bytes "b@c") (bytes "B2")) weeklyHeader ∷ [])) 2

@@ -51,15 +51,15 @@ abbrev pub other : List ℕ
 other = sampleOn "2010-04-05" "TOR"
 
 -- the header of such a message on a board, and its notice: sent 323,805,630 seconds after 2000 began
-abbrev pub headerOf : String → List ℕ
-headerOf event = pad 243 (bytes "ZCZC-CIV-" ++ (bytes event ++ bytes "-024031+0045-0951800-"))
+abbrev pub sampleHeader : String → List ℕ
+sampleHeader event = pad 243 (bytes "ZCZC-CIV-" ++ (bytes event ++ bytes "-024031+0045-0951800-"))
 
 -- with its year, 2010
-abbrev pub datedOf : String → List ℕ
-datedOf event = headerOf event ++ (7 ∷ 218 ∷ [])
+abbrev pub sampleDated : String → List ℕ
+sampleDated event = sampleHeader event ++ (7 ∷ 218 ∷ [])
 
-abbrev pub noticeOf : String → List ℕ
-noticeOf event = notice (keyOf 323805630 (bytes "b@c") (bytes "B1")) (headerOf event)
+abbrev pub sampleNotice : String → List ℕ
+sampleNotice event = notice (keyOf 323805630 (bytes "b@c") (bytes "B1")) (sampleHeader event)
 
 -- the station that the program uses
 abbrev pub bench : List ℕ
@@ -71,11 +71,11 @@ noneHeld = replicate 768 0
 
 -- and with the sample's notice
 abbrev pub oneHeld : List ℕ
-oneHeld = encode 768 (noticeOf "CEM" ∷ [])
+oneHeld = encode 768 (sampleNotice "CEM" ∷ [])
 
 -- a board of four records with the notices of both messages: two headers are due, and there is room to hand out both
 abbrev pub twoDue : List ℕ
-twoDue = encode 1536 (noticeOf "CEM" ∷ (noticeOf "TOR" ∷ []))
+twoDue = encode 1536 (sampleNotice "CEM" ∷ (sampleNotice "TOR" ∷ []))
 
 -- the Required Weekly Test of day 065, of two years
 abbrev pub weekly2010 : List ℕ

@@ -31,13 +31,13 @@ impl Record {
 
     pub const HEADER: usize = 133;
 
-    pub const ZEROS: usize = 376;
+    // The year of an aired record; the other kinds have zeros from here on.
+    pub const YEAR: usize = 376;
 
-    // Where the year of an aired record ends.
-    pub const BEHIND: usize = 378;
+    pub const ZEROS: usize = 378;
 
-    // Where the year stands in a header with its year, and the bytes of both.
-    pub const YEAR: usize = 243;
+    // The bytes of a header, and of a header with its year.
+    pub const FRONT: usize = 243;
 
     pub const CARRIED: usize = 245;
 
@@ -233,10 +233,10 @@ fn is_notice(r: &[u8]) -> bool
     if !is_key(k) {
         return false;
     }
-    if !is_header_of(&r[Record::HEADER..Record::ZEROS], sent_of(k)) {
+    if !is_header_of(&r[Record::HEADER..Record::YEAR], sent_of(k)) {
         return false;
     }
-    are_zeros(&r[Record::ZEROS..Record::SIZE])
+    are_zeros(&r[Record::YEAR..Record::SIZE])
 }
 
 fn is_withdrawal(r: &[u8]) -> bool
@@ -246,16 +246,16 @@ fn is_withdrawal(r: &[u8]) -> bool
     if !is_key(&r[Record::SENT..Record::HEADER]) {
         return false;
     }
-    if !are_zeros(&r[Record::HEADER..Record::ZEROS]) {
+    if !are_zeros(&r[Record::HEADER..Record::YEAR]) {
         return false;
     }
-    are_zeros(&r[Record::ZEROS..Record::SIZE])
+    are_zeros(&r[Record::YEAR..Record::SIZE])
 }
 
 // ---- a header with its year
 
 // The UTC year of a sent.
-fn year_of(sent: u32) -> u32
+fn utc_year(sent: u32) -> u32
     ensures { λ r. ⌜ r ≡ stampOf sent .year ⌝ }
 {
     if SPAN <= sent {
@@ -277,10 +277,10 @@ fn with_year(k: &[u8], h: &[u8]) -> [u8; Record::CARRIED]
     requires { ⌜ (length (now k) ≡ 132) × (length (now h) ≡ 243) ⌝ }
     ensures { λ g. ⌜ g ≡ dated (now (k .entry)) (now (h .entry)) ⌝ }
 {
-    let year = two_bytes(year_of(sent_of(k)));
+    let year = two_bytes(utc_year(sent_of(k)));
     let mut g = [0u8; Record::CARRIED];
     octets::put_bytes(&mut g, 0, h);
-    octets::put_bytes(&mut g, Record::YEAR, &year);
+    octets::put_bytes(&mut g, Record::FRONT, &year);
     g
 }
 
@@ -301,10 +301,10 @@ pub fn carried_by(r: &[u8]) -> [u8; Record::CARRIED]
     if r[Record::KIND] == Record::NOTICE {
         return with_year(
             &r[Record::SENT..Record::HEADER],
-            &r[Record::HEADER..Record::ZEROS],
+            &r[Record::HEADER..Record::YEAR],
         );
     }
-    copied(&r[Record::HEADER..Record::BEHIND])
+    copied(&r[Record::HEADER..Record::ZEROS])
 }
 
 // The year in a header with its year.
@@ -312,7 +312,7 @@ fn year_in(g: &[u8]) -> u32
     requires { ⌜ length (now g) ≡ 245 ⌝ }
     ensures { λ r. ⌜ r ≡ yearIn (now (g .entry)) ⌝ }
 {
-    wide(g[Record::YEAR]) * 256 + wide(g[Record::YEAR + 1])
+    wide(g[Record::FRONT]) * 256 + wide(g[Record::FRONT + 1])
 }
 
 // Whether a year has a day.
@@ -330,7 +330,7 @@ fn is_dated(g: &[u8]) -> bool
     requires { ⌜ length (now g) ≡ 245 ⌝ }
     ensures { λ r. ⌜ r ≡ every holds (headerOk (headerOf (now (g .entry))) ∷ yearOk (now (g .entry)) ∷ []) ⌝ }
 {
-    let read = header_in(&g[0..Record::YEAR]);
+    let read = header_in(&g[0..Record::FRONT]);
     if read.number != 0 {
         return false;
     }
@@ -352,10 +352,10 @@ fn is_aired(r: &[u8]) -> bool
     if !are_zeros(&r[Record::SENT..Record::HEADER]) {
         return false;
     }
-    if !is_dated(&r[Record::HEADER..Record::BEHIND]) {
+    if !is_dated(&r[Record::HEADER..Record::ZEROS]) {
         return false;
     }
-    are_zeros(&r[Record::BEHIND..Record::SIZE])
+    are_zeros(&r[Record::ZEROS..Record::SIZE])
 }
 
 // Whether r is a record.

@@ -152,7 +152,7 @@ fn front_at(s: &[u8], i: usize) -> &[u8]
 {
     let at = i * Record::SIZE;
     let from = at + Record::HEADER;
-    let to = at + Record::ZEROS;
+    let to = at + Record::YEAR;
     &s[from..to]
 }
 

@@ -11,8 +11,8 @@ use Rattle.records.proofs.with_year.Tie as tie
 sent-of-requires : tie.Need-sent-of-requires
 sent-of-requires c κs = search needs
 
-year-of-requires : tie.Need-year-of-requires
-year-of-requires c κs = search needs
+utc-year-requires : tie.Need-utc-year-requires
+utc-year-requires c κs = search needs
 
 two-bytes-requires : tie.Need-two-bytes-requires
 two-bytes-requires c κs = search needs
@@ -39,7 +39,7 @@ returns c =
     let two = h .before .before in
     let of = two .before in
     let sent = of .before in
-    let year = of .year-of .ensures ∙ ap (λ (n : ℕ). stampOf n .year) (sent .sent-of .ensures) in
+    let year = of .utc-year .ensures ∙ ap (λ (n : ℕ). stampOf n .year) (sent .sent-of .ensures) in
     dated-made _ _ _ _ _ (sent .before .before .before .pre .1) (two .two-bytes .ensures ∙ ap (λ (n : ℕ). be2 n) year) (h .put-bytes .ensures) (y .put-bytes2 .ensures)
 
 pub with-year-spec : {M : Type 1} → statement M
@@ -47,7 +47,7 @@ with-year-spec =
     tie.close
     (tie.spec
     sent-of-requires
-    year-of-requires
+    utc-year-requires
     two-bytes-requires
     slice-aggregate-put-bytes
     put-bytes-requires

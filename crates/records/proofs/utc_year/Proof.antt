@@ -3,8 +3,8 @@ use mathlib.Core.Path.{sym, ap}
 use Rattle.clock.specs.declared.Stamp.{Stamp}
 use Rattle.records.proofs.Carried.{year-late}
 use borrow.Author.Needs.{needs}
-use Rattle.records.proofs.year_of.Statement.{statement}
-use Rattle.records.proofs.year_of.Tie as tie
+use Rattle.records.proofs.utc_year.Statement.{statement}
+use Rattle.records.proofs.utc_year.Tie as tie
 
 returns : tie.Need-returns
 returns c = sym (year-late _ (c .if1 .taken))
@@ -15,5 +15,5 @@ stamp-of-requires c κs = search needs
 returns-2 : tie.Need-returns-2
 returns-2 c = ap (λ (s : Stamp). s .year) (c .stamp-of .ensures)
 
-pub year-of-spec : {M : Type 1} → statement M
-year-of-spec = tie.close (tie.spec returns stamp-of-requires returns-2)
+pub utc-year-spec : {M : Type 1} → statement M
+utc-year-spec = tie.close (tie.spec returns stamp-of-requires returns-2)
