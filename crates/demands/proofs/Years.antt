@@ -12,10 +12,11 @@ use mathlib.Core.Bool.{Bool, true, false}
 use mathlib.Core.List.{List, [], _∷_, _++_, map}
 use native.Mathlib.Omega.{arith}
 use lib.ListN.{length, take, replicate}
+use Rattle.octets.specs.declared.Order.{Order}
 use Rattle.octets.specs.declared.Order.the-variants.{Less, Same, More}
 use Rattle.octets.specs.Order.{cmp, choose}
 use Rattle.octets.specs.Text.{bytes}
-use Rattle.octets.proofs.Orders.{Way, way, first-below, first-above, first-equal, cmp-refl}
+use Rattle.octets.proofs.Orders.{Way, way, first-below, first-above, first-equal, cmp-refl, starts-decide}
 use Rattle.records.specs.Record.{keyOf, notice}
 use Rattle.board.specs.WorkingRules.{encode}
 use Rattle.demands.specs.Calls.{library}
@@ -125,16 +126,9 @@ two-bytes y z = go (way y z) (way (y / 256) (z / 256))
 -- headers of one length, each with a year: byte order is by header, then year
 pub header-then-year : (h k : List ℕ) (y z : ℕ) → length h ≡ length k →
     cmp (h ++ (y / 256 ∷ y % 256 ∷ [])) (k ++ (z / 256 ∷ z % 256 ∷ [])) ≡ choose (cmp h k) Less (cmp (y ∷ []) (z ∷ [])) More
-header-then-year [] [] y z e = two-bytes y z
-header-then-year [] (b ∷ k) y z e = absurd (omega arith)
-header-then-year (a ∷ h) [] y z e = absurd (omega arith)
-header-then-year (a ∷ h) (b ∷ k) y z e = go (way a b) (header-then-year h k y z (let q : length h ≡ length k = omega arith in q))
-  where
-    go : Way a b → cmp (h ++ (y / 256 ∷ y % 256 ∷ [])) (k ++ (z / 256 ∷ z % 256 ∷ [])) ≡ choose (cmp h k) Less (cmp (y ∷ []) (z ∷ [])) More
-        → cmp (a ∷ (h ++ (y / 256 ∷ y % 256 ∷ []))) (b ∷ (k ++ (z / 256 ∷ z % 256 ∷ []))) ≡ choose (cmp (a ∷ h) (b ∷ k)) Less (cmp (y ∷ []) (z ∷ [])) More
-    go (Way.below l) ih = first-below a b _ l ∙ sym (ap (λ o. choose o Less (cmp (y ∷ []) (z ∷ [])) More) (first-below a b (cmp h k) l))
-    go (Way.equal l) ih = first-equal a b _ l ∙ ih ∙ sym (ap (λ o. choose o Less (cmp (y ∷ []) (z ∷ [])) More) (first-equal a b (cmp h k) l))
-    go (Way.above l) ih = first-above a b _ l ∙ sym (ap (λ o. choose o Less (cmp (y ∷ []) (z ∷ [])) More) (first-above a b (cmp h k) l))
+header-then-year h k y z e =
+    starts-decide h k (y / 256 ∷ y % 256 ∷ []) (z / 256 ∷ z % 256 ∷ []) e
+    ∙ ap (λ (o : Order). choose (cmp h k) Less o More) (two-bytes y z)
 
 -- ---- a hand-out that forgets the year
 

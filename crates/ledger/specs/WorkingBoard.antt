@@ -1,4 +1,5 @@
 -- The board as the strictly ascending list of its filled records: what is due, and what an offer and a hand-out do to it.
+-- Headers that records carry, that are due or handed out are with their years; that of an alert is the header alone.
 use Prim.Native.Nat.{ℕ, zero, suc, _≤_}
 use mathlib.Core.Path.{_≡_}
 use mathlib.Core.Bool.{Bool, not}
@@ -68,7 +69,7 @@ rowsOf b = map (rowOf b) (due b)
 
 -- ---- offers
 
--- what a taken message leaves: its own sent, sender and identifier, the header that it carries (one, or none if it is quiet),
+-- what a taken message leaves: its own sent, sender and identifier, its header (one, or none if it is quiet),
 -- and what an Update or a Cancel names
 pub record Alert : Type 0 where
   pub own : List ℕ
