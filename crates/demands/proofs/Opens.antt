@@ -3,7 +3,7 @@
 use mathlib.Core.List.{flatMap}
 use Rattle.header.specs.Body.{bodyOf}
 use Rattle.leaves.specs.Leaf.{decoded, leafValue}
-use Rattle.records.specs.Record.{aired, airedIn, behind, carried, dated, header, headerOf, headerOk, key, keyOf, keyOk, notice, pad, recordOk, rest, sentIn, stampIn, withdrawal, yearIn, yearOk, zeroFilled}
+use Rattle.records.specs.Record.{aired, airedIn, behind, carried, dated, datedOk, header, headerOf, headerOk, key, keyOf, keyOk, notice, pad, recordOk, rest, sentIn, stampIn, withdrawal, yearIn, zeroFilled}
 use Rattle.ledger.specs.WorkingBoard.{carries, due, live, rowsOf, unwithdrawn}
 use Rattle.board.specs.WorkingCalls.{handOf, listOf}
 use Rattle.board.specs.WorkingCalls as board-calls
@@ -21,7 +21,7 @@ unfolding decoded leafValue
 leaves-opens = tt
 
 records-opens : Unit {0}
-unfolding bodyOf aired airedIn behind carried dated header headerOf headerOk key keyOf keyOk notice pad recordOk rest sentIn stampIn withdrawal yearIn yearOk zeroFilled
+unfolding bodyOf aired airedIn behind carried dated datedOk header headerOf headerOk key keyOf keyOk notice pad recordOk rest sentIn stampIn withdrawal yearIn zeroFilled
 records-opens = tt
 
 ledger-opens : Unit {0}

@@ -3,21 +3,25 @@
 --     weekly-rows                   a row for each year
 --     years-judged                  which years an aired record may have; a notice has none
 --     header-first                  headers are ordered by header, then year
---     header-then-year              and so are any two, as numbers
+--     header-then-year              and so are those of any two notices
 --     vanished                      a hand-out that forgets the year
-use Prim.Native.Nat.{ℕ, _/_, _%_}
+use Prim.Native.Nat.{ℕ, _/_, _%_, _≤_}
 use Prim.Native.String.{String}
-use mathlib.Core.Path.{_≡_, refl, sym, ap, _∙_}
+use mathlib.Core.Path.{_≡_, refl, sym, ap, ap₂, _∙_}
 use mathlib.Core.Bool.{Bool, true, false}
 use mathlib.Core.List.{List, [], _∷_, _++_, map}
 use native.Mathlib.Omega.{arith}
-use lib.ListN.{length, take, replicate}
+use lib.ListN.{take, replicate}
 use Rattle.octets.specs.declared.Order.{Order}
 use Rattle.octets.specs.declared.Order.the-variants.{Less, Same, More}
 use Rattle.octets.specs.Order.{cmp, choose}
 use Rattle.octets.specs.Text.{bytes}
 use Rattle.octets.proofs.Orders.{Way, way, first-below, first-above, first-equal, cmp-refl, starts-decide}
-use Rattle.records.specs.Record.{keyOf, notice}
+use Rattle.clock.specs.Stamp.{stampOf}
+use Rattle.clock.proofs.Stamps.{stamp-fits}
+use Rattle.records.specs.Record.{kind, key, sentIn, header, be2, dated, carried, recordOk, keyOf, notice}
+use Rattle.records.proofs.Records.{record-long, header-long, of-notice, key-low}
+use Rattle.records.proofs.Carried.{carried-is}
 use Rattle.board.specs.WorkingRules.{encode}
 use Rattle.demands.specs.Calls.{library}
 use Rattle.demands.specs.Numbers.{lowestIn, handOutRows, isBoard}
@@ -110,25 +114,34 @@ pub header-first : library .listing (encode 1536 (noticeFor 321213630 "TOR" ∷ 
 unfolding computing
 header-first = refl
 
--- two bytes, high byte first, are ordered as the number
-two-bytes : (y z : ℕ) → cmp (y / 256 ∷ y % 256 ∷ []) (z / 256 ∷ z % 256 ∷ []) ≡ cmp (y ∷ []) (z ∷ [])
-two-bytes y z = go (way y z) (way (y / 256) (z / 256))
+-- the two bytes of a year, high byte first, are ordered as the year
+two-bytes : (y z : ℕ) → y ≤ 2099 → z ≤ 2099 → cmp (be2 y) (be2 z) ≡ cmp (y ∷ []) (z ∷ [])
+two-bytes y z ly lz = go (way y z) (way (y / 256 % 256) (z / 256 % 256))
   where
-    go : Way y z → Way (y / 256) (z / 256) → cmp (y / 256 ∷ y % 256 ∷ []) (z / 256 ∷ z % 256 ∷ []) ≡ cmp (y ∷ []) (z ∷ [])
-    go (Way.below l) (Way.below h) = first-below (y / 256) (z / 256) _ h ∙ sym (first-below y z Same l)
-    go (Way.below l) (Way.equal h) = first-equal (y / 256) (z / 256) _ h ∙ first-below (y % 256) (z % 256) Same (omega arith) ∙ sym (first-below y z Same l)
+    go : Way y z → Way (y / 256 % 256) (z / 256 % 256) → cmp (be2 y) (be2 z) ≡ cmp (y ∷ []) (z ∷ [])
+    go (Way.below l) (Way.below h) = first-below (y / 256 % 256) (z / 256 % 256) _ h ∙ sym (first-below y z Same l)
+    go (Way.below l) (Way.equal h) = first-equal (y / 256 % 256) (z / 256 % 256) _ h ∙ first-below (y % 256) (z % 256) Same (omega arith) ∙ sym (first-below y z Same l)
     go (Way.below l) (Way.above h) = absurd (omega arith)
-    go (Way.equal l) h = ap (λ (n : ℕ). cmp (y / 256 ∷ y % 256 ∷ []) (n / 256 ∷ n % 256 ∷ [])) (sym l) ∙ cmp-refl (y / 256 ∷ y % 256 ∷ []) ∙ sym (first-equal y z Same l)
+    go (Way.equal l) h = ap (λ (n : ℕ). cmp (be2 y) (be2 n)) (sym l) ∙ cmp-refl (be2 y) ∙ sym (first-equal y z Same l)
     go (Way.above l) (Way.below h) = absurd (omega arith)
-    go (Way.above l) (Way.equal h) = first-equal (y / 256) (z / 256) _ h ∙ first-above (y % 256) (z % 256) Same (omega arith) ∙ sym (first-above y z Same l)
-    go (Way.above l) (Way.above h) = first-above (y / 256) (z / 256) _ h ∙ sym (first-above y z Same l)
+    go (Way.above l) (Way.equal h) = first-equal (y / 256 % 256) (z / 256 % 256) _ h ∙ first-above (y % 256) (z % 256) Same (omega arith) ∙ sym (first-above y z Same l)
+    go (Way.above l) (Way.above h) = first-above (y / 256 % 256) (z / 256 % 256) _ h ∙ sym (first-above y z Same l)
 
--- headers of one length, each with a year: byte order is by header, then year
-pub header-then-year : (h k : List ℕ) (y z : ℕ) → length h ≡ length k →
-    cmp (h ++ (y / 256 ∷ y % 256 ∷ [])) (k ++ (z / 256 ∷ z % 256 ∷ [])) ≡ choose (cmp h k) Less (cmp (y ∷ []) (z ∷ [])) More
-header-then-year h k y z e =
-    starts-decide h k (y / 256 ∷ y % 256 ∷ []) (z / 256 ∷ z % 256 ∷ []) e
-    ∙ ap (λ (o : Order). choose (cmp h k) Less o More) (two-bytes y z)
+-- the UTC year of a notice's sent
+abbrev sentYear : List ℕ → ℕ
+sentYear r = stampOf (sentIn (key r)) .year
+
+-- of any two notices that keep their rules: by header, then year, as a number
+module _ (q r : List ℕ) (okq : recordOk q ≡ true) (okr : recordOk r ≡ true) (nq : kind q ≡ 1) (nr : kind r ≡ 1) where
+  pub header-then-year : cmp (carried q) (carried r) ≡ choose (cmp (header q) (header r)) Less (cmp (sentYear q ∷ []) (sentYear r ∷ [])) More
+  unfolding dated
+  header-then-year =
+      ap₂ cmp (carried-is q nq) (carried-is r nr)
+      ∙ starts-decide (header q) (header r) (be2 (sentYear q)) (be2 (sentYear r)) (header-long q (record-long q okq) ∙ sym (header-long r (record-long r okr)))
+      ∙ ap (λ (o : Order). choose (cmp (header q) (header r)) Less o More) (two-bytes (sentYear q) (sentYear r) (last q okq nq) (last r okr nr))
+    where
+      last : (x : List ℕ) → recordOk x ≡ true → kind x ≡ 1 → sentYear x ≤ 2099
+      last x ok n = stamp-fits (sentIn (key x)) (key-low (key x) (of-notice x ok n .0)) .last
 
 -- ---- a hand-out that forgets the year
 

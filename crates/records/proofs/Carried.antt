@@ -11,8 +11,8 @@ use mathlib.Core.Path.{_≡_, sym, ap, ap₂, _∙_}
 use native.Mathlib.Omega.{arith}
 use borrow.Author.Tests.{le-leb, ne-eqb}
 use lib.Dec.{eqb, leb}
-use lib.ListN.{length, getD, length-append}
-use lib.Seq.{take-at, getD-append-add}
+use lib.ListN.{length, drop, getD, length-append}
+use lib.Seq.{take-at, take-take, getD-append-add}
 use Rattle.octets.specs.Bytes.{pick, between}
 use Rattle.octets.proofs.Tests.{each-of, every-of, between-is, either-way}
 use Rattle.octets.proofs.Parts.{length-part}
@@ -22,9 +22,8 @@ use Rattle.clock.specs.Stamp.{begun, yearOf, stampOf}
 use Rattle.clock.proofs.Calendar.{days-to-2000, days-to-after}
 use Rattle.clock.proofs.Stamps.{stamp-fits}
 use Rattle.header.specs.Body.{bodyForm, bodyOf}
-use Rattle.records.specs.Record.{kind, key, sentIn, header, airedIn, headerOf, yearIn, be2, dated, carried, filledIn, filledTests, zeroFilled, headerOk, stampIn, yearTests, yearOk, recordOk, notice, aired}
+use Rattle.records.specs.Record.{kind, key, sentIn, header, airedIn, headerOf, yearIn, be2, dated, carried, filledIn, filledTests, zeroFilled, headerOk, stampIn, datedTests, datedOk, recordOk, notice, aired}
 use Rattle.records.proofs.Stamps.{stamp-told}
-use Rattle.records.proofs.Judging.{aired-header}
 use Rattle.records.proofs.Records.{record-long, of-notice, key-low, key-notice, header-notice, kind-notice, header-long, made-aired}
 
 -- ---- what it is made of
@@ -45,9 +44,7 @@ module _ (k h : List ℕ) (lh : length h ≡ 243) where
   year-dated : sentIn k < span → yearIn (dated k h) ≡ stampOf (sentIn k) .year
   unfolding yearIn
   year-dated low =
-      let f = stamp-fits (sentIn k) low in
-      let y = stampOf (sentIn k) .year in
-      ap₂ (λ (a b : ℕ). a * 256 + b) (byte-dated 0) (byte-dated 1) ∙ small (stampOf (sentIn k) .year) (f .last)
+      ap₂ (λ (a b : ℕ). a * 256 + b) (byte-dated 0) (byte-dated 1) ∙ small (stampOf (sentIn k) .year) (stamp-fits (sentIn k) low .last)
     where
       small : (y : ℕ) → y ≤ 2099 → y / 256 % 256 * 256 + y % 256 ≡ y
       small y h = omega arith
@@ -78,6 +75,10 @@ pub carried-long : (r : List ℕ) → length r ≡ 384 → length (carried r) �
 unfolding carried airedIn
 carried-long r l = either-way (λ (g : List ℕ). length g ≡ 245) (eqb (kind r) 1) (dated (key r) (header r)) (airedIn r) (λ _. dated-long (key r) (header r) (header-long r l)) (λ _. length-part r 133 245 (omega arith))
 
+aired-header : (r : List ℕ) → headerOf (airedIn r) ≡ header r
+unfolding headerOf airedIn header
+aired-header r = take-take 243 245 (drop 133 r) (omega arith)
+
 -- it begins with the record's header
 pub front-is : (r : List ℕ) → length r ≡ 384 → headerOf (carried r) ≡ header r
 unfolding carried
@@ -101,15 +102,15 @@ module _ (r : List ℕ) (rule : recordOk r ≡ true) (e : kind r ≡ 1) where
   year-is : yearIn (carried r) ≡ stampOf (sentIn (key r)) .year
   year-is = ap yearIn (carried-is r e) ∙ year-dated (key r) (header r) (header-long r (record-long r rule)) low
 
-  year-kept : yearOk (carried r) ≡ true
-  unfolding yearOk
-  year-kept =
+  dated-kept : datedOk (carried r) ≡ true
+  unfolding datedOk
+  dated-kept =
       let y = stampOf (sentIn (key r)) .year in
       let f = stamp-fits (sentIn (key r)) low in
-      every-of (yearTests (carried r)) (
-        ap (between 2000 2099) year-is ∙ between-is 2000 2099 y (f .first) (f .last),
-        (ap₂ (λ (d n : ℕ). leb d (yearDays n)) day-is year-is ∙ le-leb (stampOf (sentIn (key r)) .day) (yearDays y) (f .there), tt),
+      every-of (datedTests (carried r)) (
+        ap headerOk header-is ∙ of-notice r rule e .1 .0,
+        (ap (between 2000 2099) year-is ∙ between-is 2000 2099 y (f .first) (f .last), (ap₂ (λ (d n : ℕ). leb d (yearDays n)) day-is year-is ∙ le-leb (stampOf (sentIn (key r)) .day) (yearDays y) (f .there), tt)),
       )
 
   pub airs-ok : recordOk (aired (carried r)) ≡ true
-  airs-ok = made-aired (carried r) (carried-long r (record-long r rule)) (ap headerOk header-is ∙ of-notice r rule e .1 .0) year-kept
+  airs-ok = made-aired (carried r) (carried-long r (record-long r rule)) dated-kept

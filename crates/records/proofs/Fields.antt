@@ -50,5 +50,5 @@ module _ (r : List ℕ) (ok : recordOk r ≡ true) where
       let g : carried r ≡ airedIn r = carried-other r (λ o. let z = sym o ∙ e in omega arith) in
       of-fields r 245 6 refl long
       ∙ ap₂ (λ (k : ℕ) (x : List ℕ). k ∷ x) e
-      (ap₂ (λ (x y : List ℕ). x ++ (airedIn r ++ y)) (zero-part 1 132 (omega arith) (t .0)) (zero-part 378 6 (omega arith) (t .1 .1 .1 .0)))
+      (ap₂ (λ (x y : List ℕ). x ++ (airedIn r ++ y)) (zero-part 1 132 (omega arith) (t .0)) (zero-part 378 6 (omega arith) (t .1 .1 .0)))
       ∙ ap aired (sym g)

@@ -1,18 +1,18 @@
 -- What the tests of a field and of a record answer, one after the other. n bytes of the field f stand before its first zero byte.
 --     value-bad, rest-decides          a zero-filled field
 --     read-no, read-yes                what is read in one that is to be a header
---     number-decides, stamp-decides    a header, zero-filled, and one whose JJJHHMM is that of sent
+--     header-not, stamp-decides        a header, zero-filled, whose JJJHHMM is that of sent
+--     dated-not, year-out, day-decides a header with its year
 use Prim.Native.Nat.{ℕ, _-_, _≤_, _<_}
 use mathlib.Core.Bool.{Bool, true, false, and-false}
 use mathlib.Core.List.{List, [], _∷_}
 use mathlib.Core.Path.{_≡_, refl, sym, ap, _∙_}
 use native.Mathlib.Omega.{arith}
-use borrow.Author.Tests.{eqb-true, eqb-false}
-use lib.Dec.{eqb, leb}
+use lib.Dec.{leb}
 use lib.ListN.{length, take, drop, length-drop}
-use lib.Seq.{take-all, take-take}
+use lib.Seq.{take-all}
 use Rattle.octets.specs.Bytes.{pick, every, holds, between, same}
-use Rattle.octets.proofs.Tests.{each-of, every-of, one-fails, between-is}
+use Rattle.octets.proofs.Tests.{every-of, one-fails, between-is}
 use Rattle.octets.proofs.Everys.{last-decides}
 use Rattle.clock.specs.Calendar.{yearDays}
 use Rattle.clock.specs.Time.{span}
@@ -22,7 +22,7 @@ use Rattle.header.specs.Body.{bodyForm, bodyOf, bodyRefusal, readBodyOf}
 use Rattle.header.specs.declared.BodyRead.{BodyRead}
 use Rattle.header.proofs.Reading.{body-zero, body-other}
 use Rattle.fields.proofs.Partings.{upTo-take, upTo-short}
-use Rattle.records.specs.Record.{key, header, airedIn, behind, headerOf, yearIn, zeros, filledIn, filledTests, zeroFilled, headerOk, readIn, stampIn, yearTests, yearOk, airedTests}
+use Rattle.records.specs.Record.{headerOf, yearIn, zeros, filledIn, filledTests, zeroFilled, headerOk, readIn, stampIn, datedTests, datedOk}
 use Rattle.records.proofs.Stamps.{on, stamp-is}
 
 module _ (f : List ℕ) (n : ℕ) (e : n ≡ length (filledIn f)) where
@@ -83,13 +83,6 @@ module _ (f : List ℕ) (read : BodyRead) (r : read ≡ readIn f) where
       go true e q = one-fails 0 (filledTests bodyForm f) (body-other (filledIn f) (λ n. h (ap (λ (x : BodyRead). x .number) q ∙ n)))
       go false e q = one-fails 1 (filledTests bodyForm f) e
 
-  pub number-decides : eqb (read .number) 0 ≡ headerOk f
-  number-decides = go (eqb (read .number) 0) refl
-    where
-      go : (b : Bool) → eqb (read .number) 0 ≡ b → b ≡ headerOk f
-      go true e = sym (header-read (eqb-true (read .number) 0 e) .is)
-      go false e = sym (header-bad (eqb-false (read .number) 0 e))
-
   -- whose JJJHHMM is that of sent
   module _ (sent : ℕ) (low : sent < span) where
     pub header-not : (read .number ≡ 0 → ⊥) → every holds (headerOk f ∷ same (stampIn f) (stamped sent) ∷ []) ≡ false
@@ -112,32 +105,19 @@ pair-fails k true true z h = absurd (mathlib.Core.Bool.true≢false h)
 
 -- ---- a header with its year
 
-pub dated-not : (g : List ℕ) (read : BodyRead) → read ≡ readIn (headerOf g) → (read .number ≡ 0 → ⊥) → every holds (headerOk (headerOf g) ∷ yearOk g ∷ []) ≡ false
-dated-not g read r h = one-fails 0 (headerOk (headerOf g) ∷ yearOk g ∷ []) (header-bad (headerOf g) read r h)
+module _ (g : List ℕ) where
+  module _ (read : BodyRead) (r : read ≡ readIn (headerOf g)) where
+    pub dated-not : (read .number ≡ 0 → ⊥) → datedOk g ≡ false
+    unfolding datedOk
+    dated-not h = one-fails 0 (datedTests g) (header-bad (headerOf g) read r h)
 
-pub year-out : (g : List ℕ) (y : ℕ) → y ≡ yearIn g → between 2000 2099 y ≡ false → every holds (headerOk (headerOf g) ∷ yearOk g ∷ []) ≡ false
-unfolding yearOk
-year-out g y e h = one-fails 1 (headerOk (headerOf g) ∷ every holds (yearTests g) ∷ []) (one-fails 0 (yearTests g) (ap (between 2000 2099) (sym e) ∙ h))
+    pub day-decides : read .number ≡ 0 → (y : ℕ) → y ≡ yearIn g → 2000 ≤ y → y ≤ 2099 → (b : Bool) → b ≡ leb (read .body .day) (yearDays y) → b ≡ datedOk g
+    unfolding datedOk
+    day-decides z y e lo hi b h =
+        let d = header-read (headerOf g) read r z in
+        h ∙ (λ i. leb (sym (d .body) i .day) (yearDays (e i)))
+        ∙ sym (last-decides (headerOk (headerOf g) ∷ between 2000 2099 (yearIn g) ∷ []) (leb (bodyOf (filledIn (headerOf g)) .day) (yearDays (yearIn g))) (d .is, (ap (between 2000 2099) (sym e) ∙ between-is 2000 2099 y lo hi, tt)))
 
-pub dated-decides : (g : List ℕ) (read : BodyRead) → read ≡ readIn (headerOf g) → read .number ≡ 0 → (y : ℕ) → y ≡ yearIn g → 2000 ≤ y → y ≤ 2099
-    → (b : Bool) → b ≡ leb (read .body .day) (yearDays y) → b ≡ every holds (headerOk (headerOf g) ∷ yearOk g ∷ [])
-unfolding yearOk
-dated-decides g read r z y e lo hi b h =
-    let d = header-read (headerOf g) read r z in
-    h ∙ (λ i. leb (sym (d .body) i .day) (yearDays (e i)))
-    ∙ sym (last-decides (between 2000 2099 (yearIn g) ∷ []) (leb (bodyOf (filledIn (headerOf g)) .day) (yearDays (yearIn g))) (ap (between 2000 2099) (sym e) ∙ between-is 2000 2099 y lo hi, tt))
-    ∙ sym (last-decides (headerOk (headerOf g) ∷ []) (every holds (yearTests g)) (d .is, tt))
-
--- ---- an aired record
-
-pub aired-header : (r : List ℕ) → headerOf (airedIn r) ≡ header r
-unfolding headerOf airedIn header
-aired-header r = take-take 243 245 (drop 133 r) (omega arith)
-
-pub aired-not : (r : List ℕ) → every holds (headerOk (headerOf (airedIn r)) ∷ yearOk (airedIn r) ∷ []) ≡ false → every holds (airedTests r) ≡ false
-aired-not r h = pair-fails (zeros (key r)) (headerOk (header r)) (yearOk (airedIn r)) (zeros (behind r)) (ap (λ (x : List ℕ). every holds (headerOk x ∷ yearOk (airedIn r) ∷ [])) (sym (aired-header r)) ∙ h)
-
-pub aired-decides : (r : List ℕ) → zeros (key r) ≡ true → every holds (headerOk (headerOf (airedIn r)) ∷ yearOk (airedIn r) ∷ []) ≡ true → (b : Bool) → b ≡ zeros (behind r) → b ≡ every holds (airedTests r)
-aired-decides r k h b z =
-    let w = each-of (headerOk (headerOf (airedIn r)) ∷ yearOk (airedIn r) ∷ []) h in
-    z ∙ sym (last-decides (zeros (key r) ∷ headerOk (header r) ∷ yearOk (airedIn r) ∷ []) (zeros (behind r)) (k, (ap headerOk (sym (aired-header r)) ∙ w .0, (w .1 .0, tt))))
+  pub year-out : (y : ℕ) → y ≡ yearIn g → between 2000 2099 y ≡ false → datedOk g ≡ false
+  unfolding datedOk
+  year-out y e h = one-fails 1 (datedTests g) (ap (between 2000 2099) (sym e) ∙ h)

@@ -11,7 +11,7 @@ use native.Mathlib.Omega.{arith}
 use borrow.Author.Tests.{eqb-true, eq-eqb, lt-ltb, ltb-true}
 use lib.Dec.{eqb}
 use lib.ListN.{length, take, drop, replicate, length-append, length-replicate}
-use lib.Seq.{take-at, drop-at, take-all, take-append-le}
+use lib.Seq.{take-at, drop-at, take-all}
 use Rattle.octets.specs.Bytes.{every, holds, part, same}
 use Rattle.octets.proofs.Tests.{never, Each, each-of, every-of}
 use Rattle.octets.proofs.Everys.{last-decides}
@@ -23,7 +23,7 @@ use Rattle.header.specs.Body.{timesPart, bodyForm}
 use Rattle.header.proofs.Reading.{body-long}
 use Rattle.fields.specs.Fields.{identityOk}
 use Rattle.fields.proofs.Identities.{identity-short}
-use Rattle.records.specs.Record.{kind, key, sentIn, senderIn, identifierIn, header, rest, airedIn, behind, headerOf, zeros, zeroFilled, keyTests, keyOk, headerOk, stampIn, yearOk, noticeTests, kindTests, recordTests, recordOk, pad, keyOf, notice, withdrawal, aired}
+use Rattle.records.specs.Record.{kind, key, sentIn, senderIn, identifierIn, header, rest, airedIn, behind, zeros, zeroFilled, keyTests, keyOk, headerOk, stampIn, datedOk, noticeTests, kindTests, recordTests, recordOk, pad, keyOf, notice, withdrawal, aired}
 use Rattle.records.proofs.ZeroFill.{zeros-made, pad-long, filled-pad, filled-ok, identity-full, body-full}
 
 -- ---- what a record keeps
@@ -131,10 +131,6 @@ module _ (g : List ℕ) (lg : length g ≡ 245) where
   unfolding airedIn aired
   aired-in = ap (take 245) (drop-at (replicate 132 0) (g ++ replicate 6 0) 132 (length-replicate {A = ℕ} 132 0)) ∙ take-at g (replicate 6 0) 245 lg
 
-  header-aired : header (aired g) ≡ headerOf g
-  unfolding header headerOf aired
-  header-aired = ap (take 243) (drop-at (replicate 132 0) (g ++ replicate 6 0) 132 (length-replicate {A = ℕ} 132 0)) ∙ take-append-le 243 g (replicate 6 0) (omega arith)
-
   behind-aired : behind (aired g) ≡ replicate 6 0
   unfolding behind aired
   behind-aired =
@@ -173,10 +169,10 @@ withdraws-ok k l ok =
     record-ok (withdrawal k) 2 (withdrawal-long k l) (kind-withdrawal k)
     (ap keyOk (key-withdrawal k l) ∙ ok, (ap zeros (header-withdrawal k l) ∙ zeros-made 243, (ap zeros (rest-withdrawal k l) ∙ zeros-made 8, tt)))
 
-pub made-aired : (g : List ℕ) → length g ≡ 245 → headerOk (headerOf g) ≡ true → yearOk g ≡ true → recordOk (aired g) ≡ true
-made-aired g l ok y =
+pub made-aired : (g : List ℕ) → length g ≡ 245 → datedOk g ≡ true → recordOk (aired g) ≡ true
+made-aired g l ok =
     record-ok (aired g) 3 (aired-long g l) (kind-aired g)
-    (ap zeros (key-aired g l) ∙ zeros-made 132, (ap headerOk (header-aired g l) ∙ ok, (ap yearOk (aired-in g l) ∙ y, (ap zeros (behind-aired g l) ∙ zeros-made 6, tt))))
+    (ap zeros (key-aired g l) ∙ zeros-made 132, (ap datedOk (aired-in g l) ∙ ok, (ap zeros (behind-aired g l) ∙ zeros-made 6, tt)))
 
 module _ (sent : ℕ) (sender identifier : List ℕ) where
   pub key-of-long : length sender ≤ 64 → length identifier ≤ 64 → length (keyOf sent sender identifier) ≡ 132

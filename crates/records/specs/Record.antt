@@ -110,12 +110,12 @@ readIn h = pick (zeros (drop (length (filledIn h)) h)) (readBodyOf (filledIn h))
 unfoldable pub stampIn : List ℕ → List ℕ
 stampIn h = part (timesPart (filledIn h)) 6 7
 
--- a year of 2000 to 2099 that has the header's day
-abbrev pub yearTests : List ℕ → List Bool
-yearTests g = between 2000 2099 (yearIn g) ∷ leb (bodyOf (filledIn (headerOf g)) .day) (yearDays (yearIn g)) ∷ []
+-- the header, zero-filled, with a year of 2000 to 2099, a year that has the header's day
+abbrev pub datedTests : List ℕ → List Bool
+datedTests g = headerOk (headerOf g) ∷ between 2000 2099 (yearIn g) ∷ leb (bodyOf (filledIn (headerOf g)) .day) (yearDays (yearIn g)) ∷ []
 
-unfoldable pub yearOk : List ℕ → Bool
-yearOk g = every holds (yearTests g)
+unfoldable pub datedOk : List ℕ → Bool
+datedOk g = every holds (datedTests g)
 
 -- ---- the rules of a record
 
@@ -129,7 +129,7 @@ withdrawalTests r = keyOk (key r) ∷ zeros (header r) ∷ zeros (rest r) ∷ []
 
 -- kind 3 aired has only a header with its year
 abbrev pub airedTests : List ℕ → List Bool
-airedTests r = zeros (key r) ∷ headerOk (header r) ∷ yearOk (airedIn r) ∷ zeros (behind r) ∷ []
+airedTests r = zeros (key r) ∷ datedOk (airedIn r) ∷ zeros (behind r) ∷ []
 
 -- the tests of a kind; there is no other
 abbrev pub kindTests : ℕ → List ℕ → List Bool

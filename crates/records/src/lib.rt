@@ -11,7 +11,7 @@ ghost use Rattle.clock.specs.Calendar.{yearDays};
 ghost use Rattle.clock.specs.Time.{span};
 ghost use Rattle.clock.specs.Stamp.{stampOf, stamped};
 ghost use Rattle.fields.specs.Fields.{identityOk};
-ghost use Rattle.records.specs.Record.{sentIn, zeros, filledIn, zeroFilled, keyOk, headerOk, readIn, stampIn, noticeTests, withdrawalTests, airedTests, recordOk, pad, be4, keyOf, notice, withdrawal, aired, headerOf, yearIn, be2, dated, carried, yearOk};
+ghost use Rattle.records.specs.Record.{sentIn, zeros, filledIn, zeroFilled, keyOk, headerOk, readIn, stampIn, noticeTests, withdrawalTests, airedTests, recordOk, pad, be4, keyOf, notice, withdrawal, aired, yearIn, be2, dated, carried, datedOk};
 
 pub struct Record {
     pub bytes: [u8; Record::SIZE],
@@ -328,7 +328,7 @@ fn has_day(year: u32, day: u32) -> bool
 // Whether g is a header, zero-filled, with a year of 2000 to 2099 that has its day.
 fn is_dated(g: &[u8]) -> bool
     requires { ⌜ length (now g) ≡ 245 ⌝ }
-    ensures { λ r. ⌜ r ≡ every holds (headerOk (headerOf (now (g .entry))) ∷ yearOk (now (g .entry)) ∷ []) ⌝ }
+    ensures { λ r. ⌜ r ≡ datedOk (now (g .entry)) ⌝ }
 {
     let read = header_in(&g[0..Record::FRONT]);
     if read.number != 0 {

@@ -180,8 +180,7 @@ pub fn compare_header(h: &[u8], s: &[u8], i: usize) -> Order
 {
     match octets::compare(h, front_at(s, i)) {
         Order::Less => Order::Less,
-        Order::Same => compare_whole(h, s, i),
-        Order::More => compare_whole(h, s, i),
+        _ => compare_whole(h, s, i),
     }
 }
 

@@ -1,10 +1,13 @@
 -- One record more: it carries an earlier header, or the best so far stays.
-use mathlib.Core.Path.{sym, _∙_}
+use Prim.Native.Nat.{_+_}
+use mathlib.Core.Path.{_≡_, sym, _∙_}
 use native.Mathlib.Omega.{arith}
 use borrow.Author.Tests.{not-true, not-false}
+use Rattle.octets.specs.declared.Order.{Order}
 use Rattle.octets.specs.declared.Order.the-variants.{Less, Same, More}
+use Rattle.octets.specs.Order.{choose}
 use Rattle.slots.specs.Slots.{recs}
-use Rattle.ledger.specs.WorkingScan.{after}
+use Rattle.ledger.specs.WorkingScan.{after, bestOf}
 use Rattle.board.proofs.Finds.{go-same, go-first, go-within, go-by}
 use borrow.Author.Needs.{needs}
 use Rattle.board.proofs.better.Statement.{statement}
@@ -40,26 +43,23 @@ enum-told-2 c = search needs
 enum-told-3 : tie.Need-enum-told-3
 enum-told-3 c = search needs
 
-returns-3 : tie.Need-returns-3
-returns-3 c =
-    let s = c .before .before .before .before .before .before .before .before in
+told : (c : tie.After-compare-headers) (o : Order) → c .compare-headers .result ≡ o →
+    let a = c .before .before .before .before .before .before .args in
+    choose o (a .i) (a .best) (a .best) ≡ bestOf (a .n) (after (recs (a .n) (a .s .now)) (a .last .now)) (recs (a .i + 1) (a .s .now))
+told c o e =
+    let s = c .before .before .before .before .before .before in
     let a = s .args in
-    go-by (after (recs (a .n) (a .s .now)) (a .last .now)) (a .s .now) (a .n) (a .i) (a .best) (s .pre .1) (s .pre .0 .2) (sym (c .before .before .before .before .before .comes-after .ensures) ∙ not-false _ (c .before .before .before .before .if1 .left)) (c .before .before .before .if2 .left) Less
-    (sym (c .enum-told .given .1) ∙ c .before .before .compare-headers .ensures)
+    go-by (after (recs (a .n) (a .s .now)) (a .last .now)) (a .s .now) (a .n) (a .i) (a .best) (s .pre .1) (s .pre .0 .2) (sym (c .before .before .before .comes-after .ensures) ∙ not-false _ (c .before .before .if1 .left)) (c .before .if2 .left) o
+    (sym e ∙ c .compare-headers .ensures)
+
+returns-3 : tie.Need-returns-3
+returns-3 c = told (c .before .before) Less (c .enum-told .given .1)
 
 returns-4 : tie.Need-returns-4
-returns-4 c =
-    let s = c .before .before .before .before .before .before .before .before in
-    let a = s .args in
-    go-by (after (recs (a .n) (a .s .now)) (a .last .now)) (a .s .now) (a .n) (a .i) (a .best) (s .pre .1) (s .pre .0 .2) (sym (c .before .before .before .before .before .comes-after .ensures) ∙ not-false _ (c .before .before .before .before .if1 .left)) (c .before .before .before .if2 .left) Same
-    (sym (c .enum-told2 .given .1) ∙ c .before .before .compare-headers .ensures)
+returns-4 c = told (c .before .before) Same (c .enum-told2 .given .1)
 
 returns-5 : tie.Need-returns-5
-returns-5 c =
-    let s = c .before .before .before .before .before .before .before .before in
-    let a = s .args in
-    go-by (after (recs (a .n) (a .s .now)) (a .last .now)) (a .s .now) (a .n) (a .i) (a .best) (s .pre .1) (s .pre .0 .2) (sym (c .before .before .before .before .before .comes-after .ensures) ∙ not-false _ (c .before .before .before .before .if1 .left)) (c .before .before .before .if2 .left) More
-    (sym (c .enum-told3 .given .1) ∙ c .before .before .compare-headers .ensures)
+returns-5 c = told (c .before .before) More (c .enum-told3 .given .1)
 
 pub better-spec : {M : Type 1} → statement M
 better-spec =

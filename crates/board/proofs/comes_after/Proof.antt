@@ -1,8 +1,12 @@
 -- By the mark and by the order of the two headers.
-use mathlib.Core.Path.{sym, _∙_}
+use mathlib.Core.Path.{_≡_, sym, _∙_}
+use mathlib.Core.Bool.{true, false}
 use borrow.Author.Tests.{not-true, not-false}
+use Rattle.octets.specs.declared.Order.{Order}
 use Rattle.octets.specs.declared.Order.the-variants.{Less, Same, More}
+use Rattle.octets.specs.Order.{choose}
 use Rattle.ledger.specs.WorkingBoard.{live}
+use Rattle.ledger.specs.WorkingScan.{after}
 use Rattle.slots.specs.WorkingSlots.{rec}
 use Rattle.slots.specs.Slots.{recs}
 use Rattle.board.proofs.Finds.{mark-at, unmarked, marked}
@@ -31,23 +35,22 @@ enum-told-2 c = search needs
 enum-told-3 : tie.Need-enum-told-3
 enum-told-3 c = search needs
 
-returns-2 : tie.Need-returns-2
-returns-2 c =
-    let s = c .before .before .before .before .before .before .before in
+told : (c : tie.After-compare-header) (o : Order) → c .compare-header .result ≡ o →
+    let a = c .before .before .before .before .before .args in
+    choose o true false false ≡ after (recs (a .n) (a .s .now)) (a .last .now) (rec (a .i) (a .s .now))
+told c o e =
+    let s = c .before .before .before .before .before in
     let a = s .args in
-    marked (recs (a .n) (a .s .now)) (a .last .now) (rec (a .i) (a .s .now)) Less (sym (mark-at (live (recs (a .n) (a .s .now))) (a .s .now) (a .n) (a .i) (a .marks .now) (s .pre .3) (s .pre .2)) ∙ not-false _ (c .before .before .before .if1 .left)) (sym (c .enum-told .given .1) ∙ c .before .before .compare-header .ensures)
+    marked (recs (a .n) (a .s .now)) (a .last .now) (rec (a .i) (a .s .now)) o (sym (mark-at (live (recs (a .n) (a .s .now))) (a .s .now) (a .n) (a .i) (a .marks .now) (s .pre .3) (s .pre .2)) ∙ not-false _ (c .before .if1 .left)) (sym e ∙ c .compare-header .ensures)
+
+returns-2 : tie.Need-returns-2
+returns-2 c = told (c .before .before) Less (c .enum-told .given .1)
 
 returns-3 : tie.Need-returns-3
-returns-3 c =
-    let s = c .before .before .before .before .before .before .before in
-    let a = s .args in
-    marked (recs (a .n) (a .s .now)) (a .last .now) (rec (a .i) (a .s .now)) Same (sym (mark-at (live (recs (a .n) (a .s .now))) (a .s .now) (a .n) (a .i) (a .marks .now) (s .pre .3) (s .pre .2)) ∙ not-false _ (c .before .before .before .if1 .left)) (sym (c .enum-told2 .given .1) ∙ c .before .before .compare-header .ensures)
+returns-3 c = told (c .before .before) Same (c .enum-told2 .given .1)
 
 returns-4 : tie.Need-returns-4
-returns-4 c =
-    let s = c .before .before .before .before .before .before .before in
-    let a = s .args in
-    marked (recs (a .n) (a .s .now)) (a .last .now) (rec (a .i) (a .s .now)) More (sym (mark-at (live (recs (a .n) (a .s .now))) (a .s .now) (a .n) (a .i) (a .marks .now) (s .pre .3) (s .pre .2)) ∙ not-false _ (c .before .before .before .if1 .left)) (sym (c .enum-told3 .given .1) ∙ c .before .before .compare-header .ensures)
+returns-4 c = told (c .before .before) More (c .enum-told3 .given .1)
 
 pub comes-after-spec : {M : Type 1} → statement M
 comes-after-spec =

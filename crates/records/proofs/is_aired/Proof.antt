@@ -1,9 +1,10 @@
 -- Its unused fields, and its header with its year.
 use mathlib.Core.Path.{sym, _∙_}
+use mathlib.Core.List.{[], _∷_}
 use borrow.Author.Tests.{not-true, not-false}
 use Rattle.octets.proofs.Tests.{one-fails}
+use Rattle.octets.proofs.Everys.{last-decides}
 use Rattle.records.specs.Record.{key, airedIn, behind, airedTests}
-use Rattle.records.proofs.Judging.{aired-not, aired-decides}
 use borrow.Author.Needs.{needs}
 use Rattle.records.proofs.is_aired.Statement.{statement}
 use Rattle.records.proofs.is_aired.Tie as tie
@@ -38,7 +39,7 @@ is-dated-requires c κs = search needs
 
 returns-2 : tie.Need-returns-2
 unfolding airedIn
-returns-2 c = sym (aired-not (c .before .before .before .before .before .before .before .args .r .now) (sym (c .before .is-dated .ensures) ∙ not-true _ (c .if2 .taken)))
+returns-2 c = sym (one-fails 1 (airedTests (c .before .before .before .before .before .before .before .args .r .now)) (sym (c .before .is-dated .ensures) ∙ not-true _ (c .if2 .taken)))
 
 sub-are-zeros-2 : tie.Need-sub-are-zeros-2
 sub-are-zeros-2 c = search needs
@@ -57,10 +58,8 @@ unfolding key airedIn behind
 returns-3 c =
     let key = c .before .before .before .before .before in
     let dated = c .before .before in
-    aired-decides (key .before .before .before .before .args .r .now)
-    (sym (key .before .are-zeros .ensures) ∙ not-false _ (key .if1 .left))
-    (sym (dated .before .is-dated .ensures) ∙ not-false _ (dated .if2 .left))
-    _ (c .are-zeros2 .ensures)
+    c .are-zeros2 .ensures
+    ∙ sym (last-decides (_ ∷ _ ∷ []) _ (sym (key .before .are-zeros .ensures) ∙ not-false _ (key .if1 .left), (sym (dated .before .is-dated .ensures) ∙ not-false _ (dated .if2 .left), tt)))
 
 pub is-aired-spec : {M : Type 1} → statement M
 is-aired-spec =

@@ -2,7 +2,7 @@
 use mathlib.Core.Path.{sym}
 use Rattle.octets.proofs.Tests.{below-between, above-between}
 use Rattle.records.specs.Record.{headerOf}
-use Rattle.records.proofs.Judging.{dated-not, year-out, dated-decides}
+use Rattle.records.proofs.Judging.{dated-not, year-out, day-decides}
 use borrow.Author.Needs.{needs}
 use Rattle.records.proofs.is_dated.Statement.{statement}
 use Rattle.records.proofs.is_dated.Tie as tie
@@ -42,7 +42,7 @@ returns-4 c =
     let low = high .before in
     let year = low .before in
     let read = year .before in
-    dated-decides (read .before .before .before .before .before .args .g .now) _ (read .before .before .header-in .ensures) (read .if1 .left) _ (year .year-in .ensures) (low .if2 .left) (high .if3 .left) _ (c .has-day .ensures)
+    day-decides (read .before .before .before .before .before .args .g .now) _ (read .before .before .header-in .ensures) (read .if1 .left) _ (year .year-in .ensures) (low .if2 .left) (high .if3 .left) _ (c .has-day .ensures)
 
 pub is-dated-spec : {M : Type 1} → statement M
 is-dated-spec =

@@ -17,17 +17,8 @@ compare-requires c κs = search needs
 enum-told : tie.Need-enum-told
 enum-told c = search needs
 
-enum-told-2 : tie.Need-enum-told-2
-enum-told-2 c = search needs
-
 compare-whole-requires : tie.Need-compare-whole-requires
 compare-whole-requires c κs = search needs
-
-enum-told-3 : tie.Need-enum-told-3
-enum-told-3 c = search needs
-
-compare-whole-requires-2 : tie.Need-compare-whole-requires-2
-compare-whole-requires-2 c κs = search needs
 
 returns : tie.Need-returns
 returns c =
@@ -40,9 +31,6 @@ returns c =
 returns-2 : tie.Need-returns-2
 returns-2 c = search needs
 
-returns-3 : tie.Need-returns-3
-returns-3 c = search needs
-
 pub compare-header-spec : {M : Type 1} → statement M
 compare-header-spec =
     tie.close
@@ -50,10 +38,6 @@ compare-header-spec =
     front-at-requires
     compare-requires
     enum-told
-    enum-told-2
     compare-whole-requires
-    enum-told-3
-    compare-whole-requires-2
     returns
-    returns-2
-    returns-3)
+    returns-2)
