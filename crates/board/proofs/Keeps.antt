@@ -1,15 +1,13 @@
 -- A board that keeps the rules keeps them over every call, and its filled records are those that the ledger gives.
 --     offer-keeps, hand-out-keeps    the rules
 --     offer-board, hand-board        the filled records
---     offer-grows                    the count that an offer answers
 --     hand-gives, hand-stays         the header that is handed out, and its notice
-use Prim.Native.Nat.{ℕ, _+_, _*_, _-_, _/_, _≤_, _<_}
+use Prim.Native.Nat.{ℕ, _*_, _-_, _/_, _≤_, _<_}
 use mathlib.Core.Bool.{true}
 use mathlib.Core.Path.{_≡_, refl, sym, ap, _∙_, subst}
 use mathlib.Core.Logic.{inl, ⊎-elim}
 use mathlib.Core.List.{List, [], _∷_}
 use native.Mathlib.Decide.{decLt}
-use native.Mathlib.Nat.{add-zero}
 use native.Mathlib.Omega.{arith}
 use lib.Dec.{leb, eqb}
 use lib.ListN.{length, getD}
@@ -21,7 +19,7 @@ use Rattle.records.proofs.Records.{kind-aired}
 use Rattle.records.proofs.Carried.{airs-ok}
 use Rattle.ledger.specs.Sorted.{In, insert, insertAll}
 use Rattle.ledger.specs.WorkingBoard.{live, due, Due, indexOf, After, handOutOf, handOut}
-use Rattle.ledger.proofs.Sorts.{in-insert, in-insertAll, insert-sorted, insertAll-sorted, insertAll-grows, insert-behind}
+use Rattle.ledger.proofs.Sorts.{in-insert, in-insertAll, insert-sorted, insertAll-sorted, insert-behind}
 use Rattle.ledger.proofs.Dues.{in-due, live-is, in-headers, later-kind}
 use Rattle.ledger.proofs.Scans.{carries-is, index-get}
 use Rattle.board.specs.WorkingRules.{Records, boardOk, encode}
@@ -87,19 +85,6 @@ module _ (s : List ℕ) (rs : List (List ℕ)) (ok : boardOk s ≡ true) (w : Re
       go : Offer s rs → boardOf (offerOf s rs .bytes) ≡ pick (leb (length (insertAll rs (boardOf s))) (length s / 384)) (insertAll rs (boardOf s)) (boardOf s)
       go (full h e) = ap (λ (x : Offering). boardOf (x .bytes)) e ∙ sym (passed-over (leb (length (insertAll rs (boardOf s))) (length s / 384)) _ _ (lt-leb (length (insertAll rs (boardOf s))) (length s / 384) h))
       go (taken h e) = ap (λ (x : Offering). boardOf (x .bytes)) e ∙ put-board s ok (insertAll rs (boardOf s)) with-them h ∙ sym (picked (leb (length (insertAll rs (boardOf s))) (length s / 384)) _ _ (le-leb (length (insertAll rs (boardOf s))) (length s / 384) h))
-
-  -- the count answered is the growth in filled records
-  pub offer-grows : length (boardOf (offerOf s rs .bytes)) ≡ length (boardOf s) + offerOf s rs .answer .added
-  offer-grows = go (offer-is s rs ok)
-    where
-      go : Offer s rs → length (boardOf (offerOf s rs .bytes)) ≡ length (boardOf s) + offerOf s rs .answer .added
-      go (full h e) = ap (λ (x : Offering). length (boardOf (x .bytes))) e ∙ sym (ap (λ (x : Offering). length (boardOf s) + x .answer .added) e ∙ add-zero (length (boardOf s)))
-      go (taken h e) =
-          let q : length (insertAll rs (boardOf s)) ≡ length (boardOf s) + (length (insertAll rs (boardOf s)) - length (boardOf s)) = omega (arith, insertAll-grows rs (boardOf s)) in
-          ap (λ (x : Offering). length (boardOf (x .bytes))) e
-          ∙ ap length (put-board s ok (insertAll rs (boardOf s)) with-them h)
-          ∙ q
-          ∙ sym (ap (λ (x : Offering). length (boardOf s) + x .answer .added) e)
 
   pub offer-room : offerOf s rs .answer .number ≡ 0 → length (insertAll rs (boardOf s)) ≤ length s / 384
   offer-room z = go (offer-is s rs ok)

@@ -3,31 +3,23 @@
 --     utf8-least      at least one for each character
 --     utf8-most       at most four for each character
 --     utf8-plain      a text of characters below 128 is its own bytes
-use Prim.Native.Nat.{ℕ, _+_, _*_, _≤_}
+use Prim.Native.Nat.{ℕ, _*_, _≤_}
 use mathlib.Core.Path.{_≡_, refl, sym, ap, ap₂, _∙_}
 use mathlib.Core.Bool.{true}
-use mathlib.Core.List.{List, [], _∷_, _++_, append-assoc, append-nil}
+use mathlib.Core.List.{List, [], _∷_, _++_, append-assoc}
 use native.Mathlib.Omega.{arith}
 use lib.ListN.{length, length-append}
 use lib.Dec.{ltb}
 use borrow.Author.Tests.{ltb-true}
 use Rattle.octets.specs.Bytes.{every}
 use Rattle.octets.proofs.Tests.{every-first, every-rest}
-use Rattle.characters.specs.Utf8.{encoded, width, utf8}
+use Rattle.characters.specs.Utf8.{encoded, utf8}
 use Rattle.characters.proofs.Forms.{encoded-one, width-some, width-most}
 
 pub utf8-append : (xs ys : List ℕ) → utf8 (xs ++ ys) ≡ utf8 xs ++ utf8 ys
 unfolding utf8
 utf8-append [] ys = refl
 utf8-append (x ∷ xs) ys = ap (λ (r : List ℕ). encoded x ++ r) (utf8-append xs ys) ∙ sym (append-assoc (encoded x) (utf8 xs) (utf8 ys))
-
--- one character more at the end
-pub utf8-snoc : (xs : List ℕ) (c : ℕ) → utf8 (xs ++ (c ∷ [])) ≡ utf8 xs ++ encoded c
-unfolding utf8
-utf8-snoc xs c = utf8-append xs (c ∷ []) ∙ ap (λ (r : List ℕ). utf8 xs ++ r) (append-nil (encoded c))
-
-pub length-snoc : (xs : List ℕ) (c : ℕ) → length (utf8 (xs ++ (c ∷ []))) ≡ length (utf8 xs) + width c
-length-snoc xs c = ap length (utf8-snoc xs c) ∙ length-append (utf8 xs) (encoded c)
 
 pub utf8-least : (cs : List ℕ) → length cs ≤ length (utf8 cs)
 unfolding utf8

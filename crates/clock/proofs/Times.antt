@@ -2,19 +2,17 @@
 --     instant-low     the instant of a time is one of 2000 to 2099
 use mathlib.Core.Path.{_≡_, refl, sym, ap, ap₂, _∙_}
 use mathlib.Core.List.{List}
-use mathlib.Core.Logic.{_≢_}
 use mathlib.Core.Bool.{true, false}
-use Prim.Native.Nat.{ℕ, _+_, _-_, _*_, _≤_, _<_}
+use Prim.Native.Nat.{ℕ, _+_, _*_, _≤_, _<_}
 use native.Mathlib.Omega.{arith}
-use borrow.Author.Tests.{eq-eqb, ne-eqb, leb-true, leb-false, ltb-true, le-ltb, lt-ltb}
-use lib.ListN.{length, drop, getD, length-take, length-drop}
-use lib.Seq.{take-all}
+use borrow.Author.Tests.{eq-eqb, leb-true, leb-false, ltb-true, le-ltb, lt-ltb}
+use lib.ListN.{length, getD}
 use lib.IntN.{ℤ, pos, negsuc, natAbs, _*ℤ_}
 use lib.Signed.{mag, ltZ, leZ, nonNeg}
 use lib.Dec.{T, ltb, eqb}
 use mir.Syntax.{w64}
 use mir.Val.{toZ, ofZ}
-use Rattle.octets.specs.Bytes.{every, holds, byteAt, part}
+use Rattle.octets.specs.Bytes.{every, holds, byteAt}
 use Rattle.octets.specs.declared.Num.the-variants.{Value}
 use Rattle.octets.proofs.Tests.{every-of, one-fails, picked, passed-over, either-way}
 use Rattle.clock.specs.Calendar.{daysTo}
@@ -28,16 +26,6 @@ use Rattle.clock.proofs.Pieces.{read-is, date-under, second-under, zone
 pub time-no : (i : ℕ) (t : List ℕ) → getD (timeTests t) i true ≡ false → timeOf t ≡ Time.Bad
 unfolding timeOf
 time-no i t h = passed-over _ _ _ (one-fails i (timeTests t) h)
-
--- no time begins past the end
-pub time-past : (s : List ℕ) (at n : ℕ) → length s < at → timeOf (part s at n) ≡ Time.Bad
-time-past s at n h =
-    let e : length (part s at n) ≢ 25 = simp (length-take, length-drop) (omega arith) in
-    time-no 0 (part s at n) (ne-eqb (length (part s at n)) 25 e)
-
--- a part that goes past the end is all that is left
-pub part-rest : (s : List ℕ) (at n : ℕ) → length s - at ≤ n → part s at (length s - at) ≡ part s at n
-part-rest s at n h = take-all (length s - at) (drop at s) (rw length-drop (omega arith)) ∙ sym (take-all n (drop at s) (rw length-drop (omega arith)))
 
 -- ---- in 2000 to 2099 or not: z′ is what the code compares
 

@@ -1,26 +1,22 @@
 -- The rules of a board, and how much it holds, as document 01 counts them in records, and as the library does in bytes.
 --     board-same      a board is one for the demands exactly if it is one for the library
---     room-same       too few empty records for k more
 --     adds-new        an insertion of records adds those that are new
-use Prim.Native.Nat.{ℕ, _+_, _*_, _/_, _%_}
+use Prim.Native.Nat.{ℕ, _+_, _/_, _%_}
 use mathlib.Core.Bool.{Bool, true, false, not}
 use mathlib.Core.Path.{_≡_, refl, sym, ap, _∙_}
 use mathlib.Core.Logic.{inl, inr, ⊎-elim, _↔_}
 use mathlib.Core.List.{List, [], _∷_}
 use native.Mathlib.Nat.{add-zero}
 use native.Mathlib.Omega.{arith}
-use borrow.Author.Tests.{eqb-true, leb-true, leb-false, ltb-true, lt-ltb, le-ltb}
-use lib.Dec.{leb, ltb}
+use borrow.Author.Tests.{eqb-true}
 use lib.ListN.{length}
 use Rattle.octets.specs.Bytes.{pick}
 use Rattle.octets.proofs.Tests.{each-of, every-of, between-low, between-high, between-is}
 use Rattle.ledger.specs.Sorted.{In, has, Sorted, insert, insertAll}
 use Rattle.ledger.proofs.Sorts.{in-insert, insert-sorted, insert-held, insert-new, has-in, has-not}
-use Rattle.board.specs.Rules.{boardOf}
 use Rattle.board.specs.WorkingRules.{boardTests, boardOk}
-use Rattle.board.proofs.Boards.{board-within}
 use Rattle.demands.specs.Board.{newTo}
-use Rattle.demands.specs.Numbers.{isBoard, emptiesIn}
+use Rattle.demands.specs.Numbers.{isBoard}
 use Rattle.demands.proofs.Members.{both}
 
 pub board-same : (b : List ℕ) → isBoard b ≡ boardOk b
@@ -35,23 +31,6 @@ board-same b = both (isBoard b) (boardOk b)
     let low = between-low 384 65280 (length b) (w .0) in
     let high = between-high 384 65280 (length b) (w .0) in
     every-of _ (between-is 1 170 (length b / 384) (omega arith) (omega arith), w .1))
-
--- ---- room
-
-pub not-leb : (m n : ℕ) → not (leb m n) ≡ ltb n m
-not-leb m n = go (leb m n) refl
-  where
-    go : (t : Bool) → leb m n ≡ t → not t ≡ ltb n m
-    go true e = sym (le-ltb n m (leb-true m n e))
-    go false e = sym (lt-ltb n m (leb-false m n e))
-
--- n records are k more than are filled
-pub room-same : (b : List ℕ) (n k : ℕ) → n ≡ length (boardOf b) + k → not (leb (n * 384) (length b)) ≡ ltb (emptiesIn b) k
-room-same b n k e =
-    not-leb (n * 384) (length b)
-    ∙ both (ltb (length b) (n * 384)) (ltb (emptiesIn b) k)
-    (λ t. let within = board-within b in let past = ltb-true (length b) (n * 384) t in lt-ltb (emptiesIn b) k (omega arith))
-    (λ t. let within = board-within b in let past = ltb-true (emptiesIn b) k t in lt-ltb (length b) (n * 384) (omega arith))
 
 -- ---- what an insertion adds
 

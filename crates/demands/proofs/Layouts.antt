@@ -1,13 +1,11 @@
 -- Records byte by byte, as document 01 lays them out: of the sample, of a Cancel that names it, and of its hand-out.
 --     notice-laid-out, cancel-laid-out, aired-laid-out
-use Prim.Native.Nat.{ℕ, zero, suc}
+use Prim.Native.Nat.{ℕ}
 use mathlib.Core.Path.{_≡_, refl}
 use mathlib.Core.List.{List, [], _∷_, _++_}
 use lib.ListN.{replicate}
 use Rattle.octets.specs.Text.{bytes}
-use Rattle.offers.specs.Offer.{MessageOffering}
 use Rattle.board.specs.Rules.{boardOf}
-use Rattle.board.specs.Calls.{Handing}
 use Rattle.demands.specs.Calls.{library}
 use Rattle.demands.specs.Board.{dueHeaders}
 use Rattle.demands.specs.StandIns.{sample, noneHeld, oneHeld}

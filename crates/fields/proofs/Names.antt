@@ -1,9 +1,9 @@
--- The place of a value among names: the first is it, or it is not, or there are none.
+-- The place of a value among names: the first is it, or it is not.
 use Prim.Native.Nat.{ℕ}
 use Prim.Native.String.{String}
-use mathlib.Core.Path.{_≡_, refl, sym, _∙_}
+use mathlib.Core.Path.{_≡_, sym, _∙_}
 use mathlib.Core.Bool.{Bool, true, false}
-use mathlib.Core.List.{List, [], _∷_}
+use mathlib.Core.List.{List, _∷_}
 use Rattle.octets.specs.Bytes.{same}
 use Rattle.octets.specs.Text.{bytes}
 use Rattle.fields.specs.WorkingFields.{placeOn, indexIn}
@@ -17,7 +17,3 @@ module _ (w : String) (ws : List String) (v : List ℕ) {r : Bool} (e : r ≡ sa
   pub not-named : r ≡ false → indexIn (w ∷ ws) v ≡ placeOn (indexIn ws v)
   unfolding indexIn
   not-named h = rw (sym e ∙ h)
-
-pub none-named : (v : List ℕ) → indexIn [] v ≡ 0
-unfolding indexIn
-none-named v = refl

@@ -16,7 +16,6 @@ use Rattle.reads.specs.WorkingLeaves.{onlyOf, referencesLeaf, expiresLeaf}
 use Rattle.reads.specs.WorkingSteps.{isNothing}
 use Rattle.reads.specs.declared.Leaf.{Leaf}
 use Rattle.reads.specs.declared.Locations.{Locations}
-use Rattle.reads.specs.declared.Info.{Info}
 use Rattle.fields.specs.WorkingFields.{referencesOk}
 use Rattle.fields.specs.declared.MsgType.{MsgType}
 use Rattle.message.specs.WorkingMessage.{infoIn}

@@ -1,7 +1,7 @@
 -- The state in numbers, where one of its parts is changed.
 --     info-leaves, info-events, info-audio, info-locations, info-parameters    an info
 --     state-leaves, state-number, state-fault, state-pair, state-info, state-chosen    the state
-use Prim.Native.Nat.{ℕ, _+_, _*_, _≤_, _<_}
+use Prim.Native.Nat.{ℕ, _+_, _≤_}
 use mathlib.Core.Path.{_≡_}
 use mathlib.Core.Bool.{Bool}
 use mathlib.Core.List.{List}

@@ -1,11 +1,11 @@
 -- From the root to the message: the pass over an accepted root gathers what is read in it, and the root's own tag says its prefix and namespace.
-use Prim.Native.Nat.{ℕ, suc, _+_, _-_, _≤_, _<_}
-use mathlib.Core.Path.{_≡_, refl, sym, ap, ap₂, _∙_}
+use Prim.Native.Nat.{ℕ, _+_, _-_, _≤_, _<_}
+use mathlib.Core.Path.{_≡_, refl, sym, ap, _∙_}
 use mathlib.Core.Bool.{Bool, true, false}
 use mathlib.Core.List.{List, [], _++_}
 use native.Mathlib.Omega.{arith}
 use lib.ListN.{length}
-use lib.Dec.{eqb, ltb}
+use lib.Dec.{eqb}
 use borrow.Author.Tests.{eq-eqb, ne-eqb, lt-ltb, le-ltb}
 use Rattle.octets.specs.Bytes.{pick, byteAt, part, stands}
 use Rattle.octets.specs.Text.{bytes}
@@ -19,7 +19,7 @@ use Rattle.pieces.proofs.Words.{differ, at-is}
 use Rattle.tags.specs.Tags.{takeAt, shutAt, tailAt, tailed, openAt, closeAt}
 use Rattle.tags.specs.declared.Open.{Open}
 use Rattle.tags.specs.declared.Open.the-variants.{Full, Empty, Shut}
-use Rattle.markup.specs.Tree.{Tag, Forest, nil, text, elem, One, one, none, Held, held, bad, sealed, closed, opened, elemAt, contentAt}
+use Rattle.markup.specs.Tree.{Tag, Forest, nil, elem, One, one, none, Held, held, bad, sealed, closed, opened, elemAt, contentAt}
 use Rattle.markup.specs.Document.{miscAt, ended, rooted}
 use Rattle.reads.specs.WorkingLeaves.{nothingRead}
 use Rattle.reads.specs.Names.{inside}

@@ -3,7 +3,6 @@
 --     fold-sound     the same where every one is sound
 --     fold-fault     a fault where not every one is sound
 use Prim.Native.Nat.{ℕ}
-use Prim.Native.String.{String}
 use mathlib.Core.Path.{_≡_, refl, sym, ap, ap₂, _∙_}
 use mathlib.Core.Bool.{Bool, true, false, _&&_, not, and-true, and-false, and-assoc}
 use mathlib.Core.List.{List, [], _∷_, _++_, foldl, append-assoc, append-nil}

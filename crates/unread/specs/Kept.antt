@@ -8,7 +8,7 @@ use mathlib.Core.List.{List}
 use lib.ListN.{length}
 use Rattle.octets.specs.Bytes.{pick, between, same}
 use Rattle.octets.specs.Text.{bytes}
-use Rattle.markup.specs.Tree.{Tag, Forest, nil, text, elem, One, one, none}
+use Rattle.markup.specs.Tree.{Forest, nil, text, elem, One, one, none}
 use Rattle.markup.specs.Document.{docAt}
 use Rattle.reads.specs.Names.{inside}
 use Rattle.reads.specs.declared.Kept as infos

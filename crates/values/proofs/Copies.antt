@@ -3,7 +3,7 @@
 --     kept      the copy stands there
 --     whole     fewer than g characters are the whole value
 --     plain-by, low-plain                a test that only characters below 128 pass, and a value of such characters, which is its own copy
---     printable-low, printable-utf8      a value of characters of 32 to 126 is its own copy, and its own bytes
+--     printable-low                      a value of characters of 32 to 126 is its own copy
 --     low-pick, low-same                 a test that only characters of 1 to 127 pass says the same of a value and of its copy
 use Prim.Native.Nat.{ℕ, _+_, _≤_, _<_}
 use mathlib.Core.Path.{_≡_, refl, sym, ap, ap₂, _∙_}
@@ -18,8 +18,6 @@ use borrow.Author.Tests.{lt-ltb, le-ltb, ltb-true}
 use Rattle.octets.specs.Bytes.{pick, every, between, part}
 use Rattle.octets.proofs.Everys.{every-weaker}
 use Rattle.octets.proofs.Tests.{every-first, every-rest, between-low, between-high}
-use Rattle.characters.specs.Utf8.{utf8}
-use Rattle.characters.proofs.Texts.{utf8-plain}
 use Rattle.values.specs.WorkingSteps.{low, isPrintable}
 
 length-low : (v : List ℕ) → length (map low v) ≡ length v
@@ -78,9 +76,6 @@ module _ (v : List ℕ) (h : every isPrintable v ≡ true) where
 
   pub printable-low : map low v ≡ v
   printable-low = low-plain v printable-plain
-
-  pub printable-utf8 : utf8 v ≡ v
-  printable-utf8 = utf8-plain v printable-plain
 
 keeps-back : (v : List ℕ) → every isKept (map low v) ≡ true → map low v ≡ v
 keeps-back [] h = refl

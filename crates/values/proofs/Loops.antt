@@ -239,9 +239,6 @@ module _ {s : List ℕ} {at g : ℕ} {d : List ℕ} {to : ℕ} {x : List ℕ} {i
     alone : e + width b ≡ e + 1
     alone = ap (λ (n : List ℕ). e + length n) (encoded-one b h)
 
-    pub mark-fits : to + length (utf8 (take g (restAt s at))) ≤ length d → e + 1 ≤ length x
-    mark-fits f = omega (arith, fits b (i + 1) q l f, alone)
-
     pub spell-mark : Spelling s at g d to (set x e b) (i + 1) (k + 1) (e + 1)
     spell-mark = subst (λ (n : ℕ). Spelling s at g d to (set x e b) (i + 1) (k + 1) n) alone (spell-more b (i + 1) q l (set x e b) (ap (sets x e) (sym (encoded-one b h))))
 

@@ -1,10 +1,5 @@
 -- The text is put; how long it is tells whether there is one. Behind it comes the uri.
-use mathlib.Core.Path.{_≡_, refl, sym, ap, _∙_}
-use Prim.Native.Nat.{ℕ}
-use mathlib.Core.List.{List}
 use denote.Ref.{now}
-use Rattle.outputs.specs.Outputs.{textAnswerOf}
-use Rattle.canadian.specs.WorkingCanadian.{wordsGiven, canadianGiven}
 use Rattle.canadian.proofs.Outcomes.{no-words, some-words}
 use borrow.Author.Needs.{needs}
 use Rattle.canadian.proofs.write.Statement.{statement}

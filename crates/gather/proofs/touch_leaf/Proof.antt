@@ -1,12 +1,11 @@
 -- The leaf of the context is read, touched and put back.
-use Prim.Native.Nat.{_+_, _<_, _≤_}
-use mathlib.Core.Path.{_≡_, ap, _∙_}
+use Prim.Native.Nat.{_+_, _≤_}
+use mathlib.Core.Path.{ap, _∙_}
 use native.Mathlib.Omega.{arith}
 use denote.Ref.{now}
 use borrow.Author.Needs.{needs}
 use Rattle.lent.specs.WorkingLent.{lentSize}
 use Rattle.gather.specs.WorkingVisit.{touched}
-use Rattle.gather.specs.WorkingLentVisit.{slotOf}
 use Rattle.gather.proofs.Slots.{slot-room, touch-lent, touch-none}
 use Rattle.gather.proofs.touch_leaf.Statement.{statement}
 use Rattle.gather.proofs.touch_leaf.Tie as tie

@@ -1,5 +1,4 @@
 -- The fields left to pass fall.
-use Prim.Native.Nat.{_-_}
 use borrow.Author.Needs.{needs}
 use Rattle.cases.proofs.lines.skip.Statement.{statement}
 use Rattle.cases.proofs.lines.skip.Tie as tie
