@@ -3,7 +3,7 @@
 --     canadian-refused   a refusal has its number and its field, and nothing else
 --     field-beside       a field only beside number 7
 --     canadian-gives     after 0, all that the message gives
-use Prim.Native.Nat.{ℕ, _≤_}
+use Prim.Native.Nat.{ℕ}
 use mathlib.Core.Path.{_≡_, refl}
 use mathlib.Core.List.{List}
 use native.Mathlib.Omega.{arith}
@@ -14,21 +14,10 @@ use Rattle.message.specs.WorkingMessage.{messageSays, infoIn}
 use Rattle.leaves.proofs.Fits.{audio-number, audio-fits, number-small, field-small, field-zero}
 use Rattle.outputs.specs.Outputs.{TextOutcome, textAnswerOf}
 use Rattle.outputs.specs.WorkingOutputs.{roomyText, textRefused}
-use Rattle.outputs.specs.declared.TextAudio.{TextAudio}
+use Rattle.outputs.proofs.Answers.{SmallText, alone-small}
 use Rattle.outputs.proofs.Fits.{uri-fits}
 use Rattle.canadian.specs.WorkingCanadian.{lacksWords, broadcastIn, descriptionIn, canadianGiven, wordsGiven, canadianBy, canadianOf}
 use Rattle.canadian.proofs.Texts.{text-bytes}
-
-pub record Small (r : TextAudio) : Type 0 where
-  pub number : r .number ≤ 18
-  pub field : r .field ≤ 7
-  pub audio : r .audio ≤ 3
-  pub uri : r .uri ≤ 1024
-  pub text : r .text ≤ 7200
-
-alone-small : (n f : ℕ) → n ≤ 18 → f ≤ 7 → Small (textAnswerOf (textRefused n f))
-unfolding textAnswerOf
-alone-small n f a b = record { number = a; field = b; audio = omega arith; uri = omega arith; text = omega arith }
 
 module _ (s : List ℕ) (t u : ℕ) where
   -- of each outcome: of the mode
@@ -45,7 +34,7 @@ module _ (s : List ℕ) (t u : ℕ) where
       (λ z. refuse (eqb-false (m .number) 0 z)))
       (λ _. two)
 
-  given-small : Small (textAnswerOf (record { number = 0; field = messageSays s .field; given = canadianGiven s (messageSays s) }))
+  given-small : SmallText (textAnswerOf (record { number = 0; field = messageSays s .field; given = canadianGiven s (messageSays s) }))
   unfolding textAnswerOf canadianGiven
   given-small = record {
     number = omega arith;
@@ -55,9 +44,9 @@ module _ (s : List ℕ) (t u : ℕ) where
     text = text-bytes _ _ _;
   }
 
-  pub canadian-small : Small (textAnswerOf (canadianOf s t u))
+  pub canadian-small : SmallText (textAnswerOf (canadianOf s t u))
   canadian-small =
-      outcome-holds (λ (o : TextOutcome). Small (textAnswerOf o)) (alone-small 2 0 (omega arith) (omega arith))
+      outcome-holds (λ (o : TextOutcome). SmallText (textAnswerOf o)) (alone-small 2 0 (omega arith) (omega arith))
       (λ z. alone-small _ _ (omega (arith, number-small s)) (field-small s)) (λ z. alone-small 18 _ (omega arith) (field-small s)) (λ z. given-small)
 
   pub canadian-refused : (canadianOf s t u .number ≡ 0 → ⊥) → canadianOf s t u ≡ textRefused (canadianOf s t u .number) (canadianOf s t u .field)

@@ -2,7 +2,7 @@
 --     short, refused, told      an output short; a number of the message; what it gives
 --     no-words, some-words      of a message that passed 4 to 9, by how long its text is
 use Prim.Native.Nat.{ℕ}
-use mathlib.Core.Path.{_≡_, refl, sym, ap, _∙_}
+use mathlib.Core.Path.{_≡_, refl, sym, _∙_}
 use mathlib.Core.Bool.{true, false}
 use mathlib.Core.List.{List}
 use borrow.Author.Tests.{ne-eqb, eq-eqb}
@@ -12,20 +12,13 @@ use Rattle.characters.specs.Utf8.{utf8}
 use Rattle.message.specs.WorkingMessage.{messageSays, infoIn}
 use Rattle.message.specs.declared.Message.{Message}
 use Rattle.leaves.proofs.Fits.{audio-fits}
-use Rattle.outputs.specs.Outputs.{TextOutcome, textAnswerOf}
+use Rattle.outputs.specs.Outputs.{textAnswerOf}
 use Rattle.outputs.specs.WorkingOutputs.{roomyText, uriIn, UriFits, textRefused}
 use Rattle.outputs.specs.declared.TextAudio.{TextAudio}
+use Rattle.outputs.proofs.Answers.{Answers}
 use Rattle.outputs.proofs.Fits.{uri-fits}
 use Rattle.canadian.specs.WorkingCanadian.{textGiven, broadcastIn, descriptionIn, instructionIn, canadianGiven, wordsGiven, canadianBy, canadianOf}
 use Rattle.canadian.proofs.Texts.{Puts, long-some, long-none}
-
--- an answer and both outputs at exit, as the outcome has them
-abbrev pub Answers : TextOutcome → TextAudio → List ℕ → List ℕ → List ℕ → List ℕ → Type 0
-Answers o r text uri x y = (r ≡ textAnswerOf o) × ((x ≡ sets text 0 (o .given .text)) × (y ≡ sets uri 0 (o .given .uri)))
-
--- nothing is written where nothing is given
-pub untouched : (o : TextOutcome) (r : TextAudio) (text uri : List ℕ) (n f : ℕ) → o ≡ textRefused n f → r ≡ textAnswerOf (textRefused n f) → Answers o r text uri text uri
-untouched o r text uri n f e h = (h ∙ ap textAnswerOf (sym e), (rw e, rw e))
 
 module _ (s : List ℕ) (t u : ℕ) where
   pub short : roomyText t u ≡ false → canadianOf s t u ≡ textRefused 2 0

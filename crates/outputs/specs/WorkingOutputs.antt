@@ -9,7 +9,7 @@ use Rattle.octets.specs.Bytes.{pick, every, holds}
 use Rattle.values.specs.Value.{valueAt}
 use Rattle.values.specs.WorkingSteps.{isPrintable}
 use Rattle.reads.specs.declared.Audio.{Audio}
-use Rattle.outputs.specs.Outputs.{noText, TextOutcome}
+use Rattle.outputs.specs.Outputs.{noText, TextOutcome, alone}
 
 -- lent output short: text 7,200, uri 1,024
 unfoldable pub roomyText : ℕ → ℕ → Bool
@@ -26,4 +26,4 @@ pub record UriFits (v : List ℕ) : Type 0 where
 
 -- a refusal returns its number, and its field after 7, zeros elsewhere, and touches nothing lent
 abbrev pub textRefused : ℕ → ℕ → TextOutcome
-textRefused number field = record { number = number; field = field; given = noText }
+textRefused = alone noText

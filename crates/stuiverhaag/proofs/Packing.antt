@@ -10,8 +10,8 @@ use lib.ListN.{length}
 use Rattle.octets.specs.Bytes.{pick}
 use Rattle.outputs.specs.Outputs.{textAnswerOf}
 use Rattle.outputs.specs.declared.TextAudio.{TextAudio}
+use Rattle.outputs.proofs.Answers.{SmallText}
 use Rattle.canadian.specs.WorkingCanadian.{canadianOf}
-use Rattle.canadian.proofs.Answers as canadian
 use Rattle.canadian.proofs.Answers.{canadian-small}
 use Rattle.convert.proofs.Answers.{Small, convert-small}
 use Rattle.convert.specs.WorkingConvert.{convertOf}
@@ -45,7 +45,7 @@ use Rattle.offers.proofs.Offering.{judged-small}
 pub canadian-narrow : (s : List ℕ) (t u : ℕ) (a : TextAudio) → a ≡ textAnswerOf (canadianOf s t u) → NarrowText a
 canadian-narrow s t u a is = rw is (narrow-text (canadian-small s t u))
   where
-    narrow-text : {a : TextAudio} → canadian.Small a → NarrowText a
+    narrow-text : {a : TextAudio} → SmallText a → NarrowText a
     narrow-text w = record { number = omega arith; field = omega arith; audio = omega arith; uri = omega arith; text = omega arith }
 
 -- ---- a conversion

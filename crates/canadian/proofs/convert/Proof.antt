@@ -6,7 +6,8 @@ use lib.ListN.{length}
 use borrow.Author.Tests.{not-true, not-false}
 use Rattle.outputs.specs.WorkingOutputs.{roomyText}
 use Rattle.outputs.proofs.Fits.{room-of}
-use Rattle.canadian.proofs.Outcomes.{untouched, short, refused, told, fits}
+use Rattle.outputs.proofs.Answers.{untouched}
+use Rattle.canadian.proofs.Outcomes.{short, refused, told, fits}
 use borrow.Author.Needs.{needs}
 use Rattle.canadian.proofs.convert.Statement.{statement}
 use Rattle.canadian.proofs.convert.Tie as tie
