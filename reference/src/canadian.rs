@@ -1,33 +1,19 @@
 //! The Canadian mode: text and audio only.
 
 use crate::alert::Info;
-use crate::audio::{put_uri, Audio, URI};
 use crate::judge::judge_alert;
-use crate::octets::Output;
+use crate::outputs::{Outputs, Worded};
 use crate::refusal::Refusal;
 use crate::value::Value;
-use crate::wording::{LONGEST_TEXT, TEXT};
-
-/// What was written: the lengths of uri and text, and the audio choice.
-#[derive(Clone, Copy, Debug, Default, PartialEq, Eq)]
-pub struct Canadian {
-    pub audio: Audio,
-    pub uri: usize,
-    pub text: usize,
-}
+use crate::wording::LONGEST_TEXT;
 
 /// Writes a message's Canadian text and its uri into the lent outputs; numbers 2, 4 to 9, 18.
-pub fn canadian(message: &[u8], text: &mut [u8], uri: &mut [u8]) -> Result<Canadian, Refusal> {
-    if text.len() < TEXT || uri.len() < URI {
-        return Err(Refusal::OUTPUT);
-    }
+pub fn canadian(message: &[u8], text: &mut [u8], uri: &mut [u8]) -> Result<Worded, Refusal> {
+    let outputs = Outputs::on(text, uri)?;
     let (alert, _) = judge_alert(message)?;
     let info = alert.selected.ok_or(Refusal::NO_TEXT)?;
     let words = words(&info).ok_or(Refusal::NO_TEXT)?;
-    let mut text = Output::on(text);
-    text.put_each(words.take(LONGEST_TEXT));
-    let uri = put_uri(info.audio, info.uri, uri);
-    Ok(Canadian { audio: info.audio, uri, text: text.length() })
+    Ok(outputs.put(&info, |text| text.put_each(words.take(LONGEST_TEXT))))
 }
 
 /// The broadcastText, or else description and instruction; None where the first of these is
@@ -44,6 +30,8 @@ fn words<'a>(info: &Info<'a>) -> Option<impl Iterator<Item = char> + 'a> {
 #[cfg(test)]
 mod tests {
     use super::*;
+    use crate::audio::{Audio, URI};
+    use crate::wording::TEXT;
 
     const NAME: &str = "layer:AEA:2.0:broadcastText";
     const DESCRIBED: &str = "<description>D.</description>";

@@ -1,7 +1,7 @@
 //! What the program prints for a message on its standard input.
 
 use crate::audio::{Audio, URI};
-use crate::convert::convert;
+use crate::convert;
 use crate::header::HEADER;
 use crate::octets::Output;
 use crate::refusal::Refusal;
@@ -15,16 +15,17 @@ const STATION: &[u8] = b"BENCH/01";
 /// Writes the lines for a message and returns their length.
 pub fn program(message: &[u8], lines: &mut [u8; LINES]) -> usize {
     let (mut header, mut text, mut uri) = ([0; HEADER], [0; TEXT], [0; URI]);
-    let outcome = convert(message, STATION, &mut header, &mut text, &mut uri);
+    let headed = convert::header(message, STATION, &mut header);
+    let worded = convert::text(message, STATION, &mut text, &mut uri);
     let mut lines = Output::on(lines);
-    match outcome {
+    match headed.and_then(|headed| Ok((headed, worded?))) {
         Err(refusal) => put_number(refusal, &mut lines),
-        Ok(done) => {
+        Ok((headed, worded)) => {
             put_number(Refusal::of(0), &mut lines);
-            put_line(b"header ", &header[..done.header], &mut lines);
-            put_line(audio_words(done.audio), &uri[..done.uri], &mut lines);
-            put_line(b"carry ", if done.carry { b"yes" } else { b"no" }, &mut lines);
-            put_line(b"text ", &text[..done.text], &mut lines);
+            put_line(b"header ", &header[..headed.header], &mut lines);
+            put_line(audio_words(worded.audio), &uri[..worded.uri], &mut lines);
+            put_line(b"carry ", if headed.carry { b"yes" } else { b"no" }, &mut lines);
+            put_line(b"text ", &text[..worded.text], &mut lines);
         }
     }
     lines.length()

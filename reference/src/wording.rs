@@ -14,19 +14,17 @@ pub const TEXT: usize = 4 * LONGEST_TEXT;
 const LONGEST_SENDER_NAME: usize = 200;
 const MARK: &[u8] = b"***";
 
-/// Writes the text of an activation and returns its length in bytes.
-pub fn put_text(parts: &Parts, info: &Info, text: &mut [u8]) -> usize {
-    let mut text = Output::on(text);
-    put_sentence(parts, &mut text);
+/// Writes the text of an activation.
+pub fn put_text(parts: &Parts, info: &Info, text: &mut Output) {
+    put_sentence(parts, text);
     match info.eas_text {
         Some(value) if !value.is_empty() => {
             text.put(b" ");
             let room = LONGEST_TEXT - text.characters();
             text.put_each(value.take(room));
         }
-        _ => put_own_words(info, &mut text),
+        _ => put_own_words(info, text),
     }
-    text.length()
 }
 
 fn put_sentence(parts: &Parts, text: &mut Output) {

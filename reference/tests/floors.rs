@@ -2,10 +2,13 @@
 
 #[path = "floors/boards.rs"]
 mod boards;
+#[path = "floors/conversions.rs"]
+mod conversions;
 #[path = "../src/bin/compare/floors.rs"]
 mod floors;
 
-use boards::{hand_outs, lists, offers, unlike};
+use boards::{hand_outs, lists, offers};
+use conversions::{about, canadians, headers, texts};
 use floors::{all_calls, number, Counts};
 
 /// How often a case and its answer come, and the kinds that no other has.
@@ -20,25 +23,13 @@ fn hex(bytes: &[u8]) -> String {
     bytes.iter().map(|b| format!("{b:02x}")).collect()
 }
 
-/// A case of a call about a message.
-fn about(call: &str, message: &str) -> String {
-    match call {
-        "convert" => format!("convert {} 42 252 7200 1024", hex(message.as_bytes())),
-        _ => format!("canadian {} 7200 1024", hex(message.as_bytes())),
-    }
-}
-
-/// Cases of a call, each about the same message where no other is given.
+/// Cases of a call.
 struct Cases {
     call: &'static str,
     all: Vec<Answered>,
 }
 
 impl Cases {
-    fn put(&mut self, often: usize, answer: &str, brings: &'static [&'static str]) {
-        self.put_of(often, about(self.call, "a"), answer, brings);
-    }
-
     fn put_of(
         &mut self,
         often: usize,
@@ -48,110 +39,11 @@ impl Cases {
     ) {
         self.all.push(Answered { often, case, answer: answer.to_string(), brings });
     }
-
-    /// Those of which a character or an output is refused, with the answer to each number.
-    fn put_refused(&mut self, refused: impl Fn(u32, u32) -> String) {
-        let call = self.call;
-        let malformed = about(call, "aé").replace("c3a9", "e9");
-        self.put_of(80, malformed, &refused(5, 0), &["malformed UTF-8 refused"]);
-        let lent = |length: &str| about(call, "a").replace("7200", length);
-        self.put_of(20, lent("7199"), &refused(2, 0), &["a text output of 7,199 refused"]);
-        self.put_of(20, lent("1800"), &refused(2, 0), &["a text output of 1,800 refused"]);
-        let identifier = about(call, "<p:identifier >é</p:identifier>");
-        let brings = &["number 7 for a character outside the value's range"];
-        self.put_of(60, identifier, &refused(7, 1), brings);
-    }
-}
-
-/// Conversions that meet the floors.
-fn conversions() -> Cases {
-    let mut cases = Cases { call: "convert", all: Vec::new() };
-    let said = |text: &str| format!("0 0 5a 0 - 0 {}", hex(text.as_bytes()));
-    cases.put(800, &said("T"), &[]);
-    cases.put(30, "0 0 5a 1 75 0 54", &["audio 1"]);
-    cases.put(30, "0 0 5a 2 75 0 54", &[]);
-    cases.put(30, "0 0 5a 3 75 0 54", &["audio 3"]);
-    cases.put(30, "0 0 5a 0 - 1 54", &["must-carry 1"]);
-    cases.put(80, "0 0 - 0 - 0 -", &["a quiet Cancel"]);
-    cases.put(60, &said(&"T".repeat(1800)), &[]);
-    cases.put(60, &said(&"é".repeat(1000)), &[]);
-    let brings = &["a text of 1,800 characters, some of several bytes"];
-    cases.put(60, &said(&"é".repeat(1800)), brings);
-    let marked = "é".repeat(1000) + "***" + &"a".repeat(797);
-    cases.put(30, &said(&marked), &["a mark behind a character of several bytes"]);
-    let named = format!("S. Message from {}.", "é".repeat(200));
-    let brings = &["200 characters of a senderName, some of several bytes"];
-    cases.put(20, &said(&named), brings);
-    cases.put(600, &said("é"), &["a character of 2 bytes in the text"]);
-    cases.put(300, &said("€"), &["a character of 3 bytes in the text"]);
-    cases.put(300, &said("💧"), &["a character of 4 bytes in the text"]);
-    cases.put(20, &said(&"💧".repeat(1600)), &["a text of more than 6,000 bytes"]);
-    put_seen_in_messages(&mut cases);
-    let refused = |number, field| format!("{number} {field} - 0 - 0 -");
-    cases.put_refused(refused);
-    for (number, name, brings) in RANGES {
-        let case = about("convert", &format!("<{name}>é</{name}>"));
-        cases.put_of(30, case, &refused(number, 0), brings);
-    }
-    for number in [2, 3, 4, 5, 6, 7, 8, 9, 10, 11, 12, 13, 14] {
-        let often = if matches!(number, 5 | 7) { 300 } else { 60 };
-        cases.put(often, &refused(number, 1), &[]);
-    }
-    cases
-}
-
-/// Kinds that are seen in the message of a conversion.
-fn put_seen_in_messages(cases: &mut Cases) {
-    let odd = about("convert", "<?xml \0?>");
-    let brings = &["a declaration of characters that XML does not have"];
-    cases.put_of(30, odd, "0 0 5a 0 - 0 54", brings);
-    let uri = about("convert", "<uri>é</uri>");
-    let brings = &["audio behind a uri with a character outside its range"];
-    cases.put_of(40, uri, "0 0 5a 2 75 0 54", brings);
-    let uri = about("convert", "<uri>\u{7f}</uri>");
-    let brings = &["no audio, and a uri with a character outside its range"];
-    cases.put_of(20, uri, "0 0 5a 0 - 0 54", brings);
-}
-
-/// Numbers of values with a range, and the elements that have these values.
-const RANGES: [(u32, &str, &[&str]); 5] = [
-    (10, "references", &["number 10 for a character outside the value's range"]),
-    (11, "value", &["number 11 for a character outside the value's range"]),
-    (12, "value", &["number 12 for a character outside the value's range"]),
-    (13, "value", &["number 13 for a character outside the value's range"]),
-    (14, "expires", &["number 14 for a character outside the value's range"]),
-];
-
-/// Cases of the Canadian mode that meet the floors.
-fn canadians() -> Cases {
-    let mut cases = Cases { call: "canadian", all: Vec::new() };
-    let said = |text: &str| format!("0 0 0 - {}", hex(text.as_bytes()));
-    cases.put(400, &said("T"), &[]);
-    cases.put(300, &said("BT"), &["a broadcastText"]);
-    cases.put(50, "0 0 1 75 54", &["audio 1"]);
-    cases.put(50, "0 0 2 75 54", &[]);
-    cases.put(50, "0 0 3 75 54", &["audio 3"]);
-    cases.put(400, &said(&"é".repeat(1800)), &[]);
-    cases.put(20, &said(&"💧".repeat(1800)), &["a text of 7,200 bytes"]);
-    cases.put(100, &said(&("T".repeat(1799) + " ")), &["a space left by the cut"]);
-    cases.put(400, &said("é"), &[]);
-    cases.put(300, &said("€"), &["a character of 3 bytes in the text"]);
-    cases.put(300, &said("💧"), &["a character of 4 bytes in the text"]);
-    let uri = about("canadian", "<uri>é</uri>");
-    let brings = &["audio behind a uri with a character outside its range"];
-    cases.put_of(60, uri, "0 0 2 75 54", brings);
-    let refused = |number, field| format!("{number} {field} 0 - -");
-    cases.put_refused(refused);
-    for number in [2, 4, 5, 6, 7, 8, 9, 18] {
-        let often = if matches!(number, 5 | 7 | 18) { 300 } else { 60 };
-        cases.put(often, &refused(number, 1), &[]);
-    }
-    cases
 }
 
 /// Cases of each call that has kinds, which meet its floors.
-fn all_cases() -> [Cases; 5] {
-    [conversions(), canadians(), offers(), hand_outs(), lists()]
+fn all_cases() -> [Cases; 6] {
+    [headers(), texts(), canadians(), offers(), hand_outs(), lists()]
 }
 
 fn faults(call: &str, answers: &[(usize, String)]) -> Vec<String> {
@@ -204,26 +96,27 @@ fn a_character_elsewhere_is_none_of_a_value() {
         "<value>a long text with a character é</value>",
     ];
     for message in elsewhere {
-        let case = about("convert", message);
-        let found = faults_of("convert", [(1, &case[..], "12 0 - 0 - 0 -")].into_iter());
-        let sentence = format!("convert was compared 0 times with {kind}, not 1.");
+        let case = about("header", message);
+        let found = faults_of("header", [(1, &case[..], "12 0 - 0")].into_iter());
+        let sentence = format!("header was compared 0 times with {kind}, not 1.");
         assert!(found.contains(&sentence), "for {message}");
     }
 }
 
 #[test]
 fn conversions_that_are_all_alike_are_refused() {
-    let found = faults("convert", &[(1000, "0 0 5a 3 75 1 54".to_string())]);
-    for what in ["audio 0, not 220", "must-carry 0, not 230"] {
-        let sentence = format!("convert was compared 0 times with {what}.");
-        assert!(found.contains(&sentence), "{sentence}");
-    }
+    let found = faults("header", &[(1000, "0 0 5a 1".to_string())]);
+    let sentence = "header was compared 0 times with must-carry 0, not 226.";
+    assert!(found.iter().any(|fault| fault == sentence), "{found:?}");
+    let found = faults("text", &[(1000, "0 0 3 75 54".to_string())]);
+    let sentence = "text was compared 0 times with audio 0, not 215.";
+    assert!(found.iter().any(|fault| fault == sentence), "{found:?}");
 }
 
 #[test]
 fn canadian_texts_that_are_all_broadcast_are_refused() {
     let found = faults("canadian", &[(1000, "0 0 1 75 4254".to_string())]);
-    for what in ["a description, not 200", "audio 0, not 230"] {
+    for what in ["a description, not 196", "audio 0, not 225"] {
         let sentence = format!("canadian was compared 0 times with {what}.");
         assert!(found.contains(&sentence), "{sentence}");
     }
@@ -239,8 +132,8 @@ fn lists_that_have_one_row_and_one_notice_in_each_are_refused() {
 }
 
 #[test]
-fn a_board_that_is_none_of_a_kind_is_not_counted() {
-    for (call, kind, case, answer) in unlike() {
+fn what_is_none_of_a_kind_is_not_counted() {
+    for (call, kind, case, answer) in boards::unlike().into_iter().chain(conversions::unlike()) {
         let found = faults_of(call, [(1, &case[..], answer)].into_iter());
         let sentence = format!("{call} was compared 0 times with {kind}, not 1.");
         assert!(found.contains(&sentence), "{sentence}");
@@ -249,8 +142,9 @@ fn a_board_that_is_none_of_a_kind_is_not_counted() {
 
 #[test]
 fn a_number_that_a_call_can_give_and_did_not_is_refused() {
-    let calls: [(&str, &[u32]); 8] = [
-        ("convert", &[0, 2, 3, 4, 5, 6, 7, 8, 9, 10, 11, 12, 13, 14]),
+    let calls: [(&str, &[u32]); 9] = [
+        ("header", &[0, 2, 3, 4, 5, 6, 7, 8, 9, 10, 11, 12, 13, 14]),
+        ("text", &[0, 2, 3, 4, 5, 6, 7, 8, 9, 10, 11, 12, 13, 14]),
         ("canadian", &[0, 2, 4, 5, 6, 7, 8, 9, 18]),
         ("offer", &[0, 1, 4, 5, 6, 7, 8, 9, 10, 11, 12, 13, 14, 15]),
         ("handout", &[0, 1, 15, 16]),

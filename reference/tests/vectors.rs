@@ -24,6 +24,11 @@ fn readings_of_document_02_are_answered() {
 }
 
 #[test]
+fn header_and_text_are_answered_apart() {
+    check(include_str!("../../tests/vectors/two-calls.txt"));
+}
+
+#[test]
 fn the_canadian_mode_is_answered() {
     check(include_str!("../../tests/vectors/canadian.txt"));
 }
@@ -58,8 +63,14 @@ fn lines_that_are_no_cases() {
         "list - 65281",
         "list - x",
         "list - 0000000001",
-        "convert - - 252 7200",
-        "convert - - 252 7200 -1",
+        "convert - - 252 7200 1024",
+        "header",
+        "header - -",
+        "header - - 252 7200 1024",
+        "header - - 65281",
+        "text",
+        "text - - 7200",
+        "text - - 7200 -1",
         "canadian - 7200",
         "canadian - 7200 65281",
         "canadian - 7200 1024 0",

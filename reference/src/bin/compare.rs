@@ -2,9 +2,12 @@
 //! `compare [--calls CALLS] [--least COUNT] CASES NAME=ANSWERS NAME=ANSWERS ..`
 //! CALLS, joined by commas, are the calls that must have been compared, each at least COUNT
 //! times and with each number and kind of answer often enough. A comparison of nothing fails.
+//! Header and text of one message, next to each other, must have the same number and field.
 //! With `--pairs unread` or `--pairs read` the cases come in pairs, by what differs in their
 //! messages, and COUNT pairs must have been compared in all.
 
+#[path = "compare/both.rs"]
+mod both;
 #[path = "compare/floors.rs"]
 mod floors;
 #[path = "compare/pairs.rs"]

@@ -47,13 +47,15 @@ use std::process::ExitCode;
 
 use boards::Chain;
 use chance::Chance;
+use messages::Conversion;
 use pairs::Differing;
 
 const LONGEST_LINE: usize = 200_000;
 
-/// The calls, and how often each comes in its turn.
-const CALLS: [(&str, usize); 8] = [
-    ("convert", 6),
+/// The calls, and how often each comes in its turn: behind a header the text of the same message.
+const CALLS: [(&str, usize); 9] = [
+    ("header", 5),
+    ("text", 5),
     ("canadian", 4),
     ("offer", 4),
     ("handout", 2),
@@ -66,6 +68,8 @@ const CALLS: [(&str, usize); 8] = [
 struct Generator {
     chance: Chance,
     chain: Chain,
+    /// What was asked for its header and not yet for its text.
+    headed: Option<Conversion>,
     /// How many cases of each call there were.
     turns: [usize; CALLS.len()],
 }
@@ -74,15 +78,16 @@ impl Generator {
     fn new(seed: u64) -> Generator {
         let mut chance = Chance::seeded(seed);
         let chain = Chain::new(&mut chance);
-        Generator { chance, chain, turns: [0; CALLS.len()] }
+        Generator { chance, chain, headed: None, turns: [0; CALLS.len()] }
     }
 
     fn case(&mut self, call: usize) -> String {
         let turn = self.turns[call];
         self.turns[call] += 1;
-        let (chain, chance) = (&mut self.chain, &mut self.chance);
+        let (chain, headed, chance) = (&mut self.chain, &mut self.headed, &mut self.chance);
         match CALLS[call].0 {
-            "convert" => messages::convert_case(turn, chance),
+            "header" => messages::header_case(turn, headed, chance),
+            "text" => messages::text_case(turn, headed, chance),
             "canadian" => messages::canadian_case(turn, chance),
             "offer" => boards::offer_case(turn, chain, chance),
             "handout" => boards::hand_out_case(turn, chain, chance),
@@ -156,7 +161,7 @@ fn main() -> ExitCode {
     let given: Vec<String> = std::env::args().skip(1).collect();
     let Some(arguments) = Arguments::read(&given) else {
         eprintln!(
-            "Give a seed, a count, and perhaps calls joined by commas; for pairs of convert, \
+            "Give a seed, a count, and perhaps calls joined by commas; for pairs of header, text, \
              canadian, offer and program then unread or read."
         );
         return ExitCode::FAILURE;

@@ -8,8 +8,8 @@ mod lent;
 use self::hex::{from_hex, to_hex};
 use self::lent::{byte_pattern, Lent};
 use reference::{
-    canadian, convert, hand_out, list, offer, program, read_header, write_header, Parts, Refusal,
-    Row, LINES, RECORD,
+    hand_out, list, offer, program, read_header, write_header, Parts, Refusal, Row, Worded, LINES,
+    RECORD,
 };
 
 const LONGEST_LINE: usize = 200_000;
@@ -22,7 +22,8 @@ pub fn answer(line: &[u8]) -> String {
     let (call, fields) = fields.split_first().expect("A split has a first field.");
     let answer = match *call {
         _ if line.len() > LONGEST_LINE => None,
-        b"convert" => answer_convert(fields),
+        b"header" => answer_header(fields),
+        b"text" => answer_text(fields),
         b"canadian" => answer_canadian(fields),
         b"offer" => answer_offer(fields),
         b"handout" => answer_hand_out(fields),
@@ -35,35 +36,46 @@ pub fn answer(line: &[u8]) -> String {
     answer.unwrap_or_else(|| "?".to_string())
 }
 
-fn answer_convert(fields: &[&[u8]]) -> Option<String> {
-    let [message, station, header, text, uri] = fields else {
+fn answer_header(fields: &[&[u8]]) -> Option<String> {
+    let [message, station, header] = fields else {
         return None;
     };
     let (message, station) = (from_hex(message)?, from_hex(station)?);
     let mut header = Lent::pattern(cap(header)?, byte_pattern);
-    let mut text = Lent::pattern(cap(text)?, byte_pattern);
-    let mut uri = Lent::pattern(cap(uri)?, byte_pattern);
-    let outcome = convert(&message, &station, header.items(), text.items(), uri.items());
+    let outcome = reference::header(&message, &station, header.items());
     let done = outcome.unwrap_or_default();
     let Refusal { number, field } = refusal(outcome);
-    Some(format!(
-        "{number} {field} {} {} {} {} {}",
-        to_hex(header.answer(done.header)),
-        done.audio as u8,
-        to_hex(uri.answer(done.uri)),
-        u8::from(done.carry),
-        to_hex(text.answer(done.text)),
-    ))
+    let header = to_hex(header.answer(done.header));
+    Some(format!("{number} {field} {header} {}", u8::from(done.carry)))
+}
+
+fn answer_text(fields: &[&[u8]]) -> Option<String> {
+    let [message, station, caps @ ..] = fields else {
+        return None;
+    };
+    let (message, station) = (from_hex(message)?, from_hex(station)?);
+    answer_worded(caps, |text, uri| reference::text(&message, &station, text, uri))
 }
 
 fn answer_canadian(fields: &[&[u8]]) -> Option<String> {
-    let [message, text, uri] = fields else {
+    let [message, caps @ ..] = fields else {
         return None;
     };
     let message = from_hex(message)?;
+    answer_worded(caps, |text, uri| reference::canadian(&message, text, uri))
+}
+
+/// The answer of a call that gives text and audio, by the lengths of its outputs.
+fn answer_worded(
+    caps: &[&[u8]],
+    call: impl FnOnce(&mut [u8], &mut [u8]) -> Result<Worded, Refusal>,
+) -> Option<String> {
+    let [text, uri] = caps else {
+        return None;
+    };
     let mut text = Lent::pattern(cap(text)?, byte_pattern);
     let mut uri = Lent::pattern(cap(uri)?, byte_pattern);
-    let outcome = canadian(&message, text.items(), uri.items());
+    let outcome = call(text.items(), uri.items());
     let done = outcome.unwrap_or_default();
     let Refusal { number, field } = refusal(outcome);
     Some(format!(

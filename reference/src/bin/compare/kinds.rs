@@ -2,6 +2,8 @@
 
 #[path = "boards.rs"]
 pub mod boards;
+#[path = "conversions.rs"]
+mod conversions;
 #[path = "years.rs"]
 mod years;
 
@@ -15,7 +17,7 @@ pub struct Seen<'a> {
     /// What the case lends of these, nothing where there is none.
     board: Board,
     message: Vec<u8>,
-    /// The audio choice of a conversion in either mode that gives a text.
+    /// The audio choice of a text in either mode.
     audio: Option<&'a str>,
     /// That text, or what the program prints; nothing where there is none.
     text: Vec<u8>,
@@ -30,14 +32,15 @@ impl<'a> Seen<'a> {
         let (board, message) = match asked[..] {
             ["offer", board, message] => (bytes(board), bytes(message)),
             ["handout", board] | ["list", board, _] => (bytes(board), Vec::new()),
-            ["convert" | "canadian" | "program", message, ..] => (Vec::new(), bytes(message)),
+            ["header" | "text" | "canadian" | "program", message, ..] => {
+                (Vec::new(), bytes(message))
+            }
             _ => (Vec::new(), Vec::new()),
         };
         let (audio, text) = match (asked[0], &answer[..]) {
-            ("convert", ["0", _, header, audio, _, _, text]) if *header != "-" => {
+            ("text" | "canadian", ["0", _, audio, _, text]) if *text != "-" => {
                 (Some(*audio), bytes(text))
             }
-            ("canadian", ["0", _, audio, _, text]) => (Some(*audio), bytes(text)),
             ("program", [printed]) if number == 0 => (None, bytes(printed)),
             _ => (None, Vec::new()),
         };
@@ -48,16 +51,18 @@ impl<'a> Seen<'a> {
         self.number
     }
 
+    /// Whether a conversion is answered 0 and gives nothing.
     pub fn is_quiet(&self) -> bool {
-        matches!(self.answer[..], ["0", _, "-", ..])
+        matches!(self.answer[..], ["0", _, "-", _] | ["0", _, _, _, "-"])
     }
 
     pub fn has_audio(&self, wanted: &str) -> bool {
         self.audio == Some(wanted)
     }
 
+    /// Whether a header is given with this must-carry.
     pub fn has_carry(&self, wanted: &str) -> bool {
-        self.audio.is_some() && self.answer[5] == wanted
+        matches!(self.answer[..], ["0", _, header, carry] if header != "-" && carry == wanted)
     }
 
     /// Whether the text has a character of so many bytes.
@@ -119,15 +124,6 @@ impl<'a> Seen<'a> {
     pub fn counts_several(&self) -> bool {
         let several = |row: &str| row.split_once(':').is_some_and(|(_, count)| count != "1");
         matches!(self.answer[..], ["0", _, rows] if rows.split(',').any(several))
-    }
-
-    /// Whether a text output of this length is refused.
-    pub fn is_short(&self, length: &str) -> bool {
-        let lent = match self.asked[..] {
-            ["convert", _, _, _, text, _] | ["canadian", _, text, _] => text,
-            _ => "",
-        };
-        self.number == 2 && lent == length
     }
 
     /// Whether a message is refused that is not well formed.
@@ -192,13 +188,18 @@ fn bytes(hex: &str) -> Vec<u8> {
 /// Whether an element of this name begins with text in which a byte lies beyond the ranges. Long
 /// values of pairs don't count: they are texts.
 fn has_wide(message: &[u8], name: &[u8]) -> bool {
-    let longest = if name == b"value" { 12 } else { message.len() };
+    let longest = if name == b"value" { 11 } else { message.len() };
+    has_text(message, name, |text| text.len() <= longest && text.iter().any(|b| *b >= 0x7f))
+}
+
+/// Whether an element of this name begins with text of which this holds.
+fn has_text(message: &[u8], name: &[u8], holds: impl Fn(&[u8]) -> bool) -> bool {
     message.split(|b| *b == b'<').any(|piece| {
         let tag = piece.iter().position(|b| *b == b'>').unwrap_or(piece.len());
         let (tag, text) = piece.split_at(tag);
         let named = tag.split(|b| b" \t\r\n".contains(b)).next().unwrap_or(tag);
         let local = named.rsplit(|b| *b == b':').next().unwrap_or(named);
         let ends = named.starts_with(b"/");
-        local == name && !ends && text.len() <= longest && text.iter().any(|b| *b >= 0x7f)
+        local == name && !ends && holds(text.strip_prefix(b">").unwrap_or(text))
     })
 }

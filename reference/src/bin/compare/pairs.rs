@@ -238,13 +238,13 @@ mod tests {
     use super::*;
     use crate::sources::tests::lines;
 
-    /// Pairs of conversions that differ by every kind, compared by two that answer the same.
+    /// Pairs of headers that differ by every kind, compared by two that answer the same.
     fn faults(differing: Differing, least: usize, answers: &[[&str; 2]]) -> Vec<String> {
         let mut cases = String::new();
         let mut answered = String::new();
         for (place, [first, second]) in answers.iter().enumerate() {
             let kinds = differing.kinds().join(",");
-            cases += &format!("pair {kinds}\nconvert {place}\nconvert {place}x\n");
+            cases += &format!("pair {kinds}\nheader {place}\nheader {place}x\n");
             answered += &format!("?\n{first}\n{second}\n");
         }
         faults_of(differing, least, &cases, &answered, &answered)
@@ -258,7 +258,7 @@ mod tests {
         two: &str,
     ) -> Vec<String> {
         match compare_pairs(differing, lines(cases), vec![lines(one), lines(two)]) {
-            Ok(pairs) => pairs.faults(&["convert"], least),
+            Ok(pairs) => pairs.faults(&["header"], least),
             Err(sentence) => vec![sentence],
         }
     }
@@ -282,10 +282,10 @@ mod tests {
 
     #[test]
     fn a_pair_that_only_one_answers_unequally_fails() {
-        let cases = format!("pair {}\nconvert a\nconvert b\n", UNREAD.join(","));
+        let cases = format!("pair {}\nheader a\nheader b\n", UNREAD.join(","));
         let found = faults_of(Differing::Unread, 1, &cases, "?\n0 a\n0 a\n", "?\n0 a\n0 b\n");
         assert_eq!(found[0], "1 answers differ.");
-        let cases = format!("pair {}\nconvert a\nconvert b\n", READ.join(","));
+        let cases = format!("pair {}\nheader a\nheader b\n", READ.join(","));
         let found = faults_of(Differing::Read, 1, &cases, "?\n0 a\n0 b\n", "?\n0 a\n0 c\n");
         assert_eq!(found, ["1 answers differ."]);
     }
@@ -309,18 +309,18 @@ mod tests {
     #[test]
     fn a_control_that_is_mostly_equal_fails() {
         let found = faults(Differing::Read, 2, &[ZERO, SEVEN]);
-        assert_eq!(found, ["Only 0 of 2 pairs of convert were answered otherwise."]);
+        assert_eq!(found, ["Only 0 of 2 pairs of header were answered otherwise."]);
         let found = faults(Differing::Read, 2, &[ZERO, OTHERWISE]);
-        assert_eq!(found, ["Only 1 of 2 pairs of convert were answered otherwise."]);
+        assert_eq!(found, ["Only 1 of 2 pairs of header were answered otherwise."]);
         assert!(faults(Differing::Read, 2, &[ZERO, OTHERWISE, OTHERWISE]).is_empty());
     }
 
-    /// Conversions that meet what is asked of pairs, and one pair of another call.
+    /// Headers that meet what is asked of pairs, and one pair of another call.
     fn faults_beside(differing: Differing, pair: [&str; 2], other: [&str; 2]) -> Vec<String> {
         let kinds = differing.kinds().join(",");
         let two = |call: &str| format!("pair {kinds}\n{call} a\n{call} b\n");
         let said = |[first, second]: [&str; 2]| format!("?\n{first}\n{second}\n");
-        let cases = two("convert").repeat(4) + &two("canadian");
+        let cases = two("header").repeat(4) + &two("canadian");
         let answers = said(pair).repeat(4) + &said(other);
         faults_of(differing, 5, &cases, &answers, &answers)
     }
@@ -337,7 +337,7 @@ mod tests {
 
     #[test]
     fn too_few_pairs_of_a_kind_fail() {
-        let cases = format!("pair {}\nconvert a\nconvert b\n", UNREAD[1..].join(","));
+        let cases = format!("pair {}\nheader a\nheader b\n", UNREAD[1..].join(","));
         let answers = "?\n0 a\n0 a\n";
         let found = faults_of(Differing::Unread, 1, &cases, answers, answers);
         assert_eq!(found, ["0 pairs answered 0 differ by comment-put-in-before, not 1."]);
@@ -357,10 +357,10 @@ mod tests {
     #[test]
     fn what_is_no_pair_fails() {
         let kinds = UNREAD.join(",");
-        let one_case = format!("pair {kinds}\nconvert a\nconvert a\n");
-        let two_calls = format!("pair {kinds}\nconvert a\nprogram b\n");
-        let cut_off = format!("pair {kinds}\nconvert a\n");
-        for cases in [&one_case, &two_calls, &cut_off, "convert a\nconvert b\n"] {
+        let one_case = format!("pair {kinds}\nheader a\nheader a\n");
+        let two_calls = format!("pair {kinds}\nheader a\nprogram b\n");
+        let cut_off = format!("pair {kinds}\nheader a\n");
+        for cases in [&one_case, &two_calls, &cut_off, "header a\nheader b\n"] {
             let answers = "0 a\n".repeat(cases.lines().count());
             assert_eq!(faults_of(Differing::Unread, 1, cases, &answers, &answers).len(), 1);
         }

@@ -1,7 +1,8 @@
 //! Compares the answers to each case, and counts what was compared.
 
+use crate::both::Both;
 use crate::floors::{all_calls, Counts};
-use crate::sources::{asked, at_end, shown, Asked, Source};
+use crate::sources::{asked, at_end, shown, Source};
 
 pub const SHOWN_DIFFERENCES: usize = 5;
 
@@ -11,6 +12,8 @@ pub struct Tally {
     /// Lines that are no case, answered `?` by all.
     pub others: usize,
     pub differences: usize,
+    /// Header and text of one message, where single cases are compared.
+    both: Both,
 }
 
 impl Tally {
@@ -41,6 +44,9 @@ impl Tally {
         for line in all_calls().filter(wanted).flat_map(|call| self.counts.lines(call)) {
             println!("{line}");
         }
+        if let Some(line) = self.both.line() {
+            println!("{line}");
+        }
         println!("lines that are no case: {}", self.others);
         println!("differences: {}", self.differences);
     }
@@ -50,6 +56,10 @@ impl Tally {
         let mut faults = Vec::new();
         if self.differences > 0 {
             faults.push(format!("{} answers differ.", self.differences));
+        }
+        faults.extend(self.both.difference());
+        if ["header", "text"].iter().all(|call| calls.contains(call)) {
+            faults.extend(self.both.faults(self.compared("header")));
         }
         for call in calls {
             let compared = self.compared(call);
@@ -70,9 +80,10 @@ pub fn compare(mut cases: Source, mut sources: Vec<Source>) -> Result<Tally, Str
     let names: Vec<String> = sources.iter().map(|source| source.name.clone()).collect();
     let mut tally = Tally::default();
     let mut lines = 0;
-    while let Some(Asked { case, answers }) = asked(&mut cases, &mut sources)? {
+    while let Some(asked) = asked(&mut cases, &mut sources)? {
         lines += 1;
-        tally.compare(&case, &names, &answers);
+        tally.compare(&asked.case, &names, &asked.answers);
+        tally.both.add(&names, asked);
     }
     at_end(&mut sources)?;
     if lines == 0 {
@@ -124,5 +135,22 @@ mod tests {
     fn a_floor_that_is_not_met_fails() {
         let found = faults("read a\nread b\n", "17 -\n17 -\n", "17 -\n17 -\n");
         assert_eq!(found, ["read was compared 0 times with number 0, not 1."]);
+    }
+
+    #[test]
+    fn header_and_text_of_one_message_are_held_to_each_other() {
+        let cases = "header 6d 42 252\ntext 6d 42 7200 1024\n";
+        let found = |answers: &str, calls: &[&str]| {
+            let tally = compare(lines(cases), vec![lines(answers), lines(answers)]).unwrap();
+            tally.faults(calls, 1)
+        };
+        let unlike = "1 messages are not answered alike by both header and text.";
+        let refused = "0 messages were answered 0 by both header and text, not 1.";
+        let both = ["header", "text"];
+        assert!(found("7 1 - 0\n7 2 0 - -\n", &both).iter().any(|fault| fault == unlike));
+        assert!(found("7 1 - 0\n7 1 0 - -\n", &both).iter().any(|fault| fault == refused));
+        assert!(found("0 0 5a 0\n0 0 0 - 54\n", &both).iter().all(|fault| fault != refused));
+        assert_eq!(found("7 1 - 0\n7 2 0 - -\n", &[]), [unlike]);
+        assert!(found("7 1 - 0\n7 1 0 - -\n", &[]).is_empty());
     }
 }

@@ -1,4 +1,4 @@
-//! Cases of messages: convert, canadian and program.
+//! Cases of messages: header, text, canadian and program.
 
 use crate::canadian::CANADIAN;
 use crate::chance::Chance;
@@ -6,7 +6,7 @@ use crate::draft::Draft;
 use crate::headers::{odd_station, station};
 use crate::hex::to_hex;
 use crate::render::render;
-use crate::sound::{cancel, languages, SOUND};
+use crate::sound::{cancel, languages, quiet, SOUND};
 use crate::unread::one_of;
 use crate::wrong::WRONG;
 
@@ -132,42 +132,74 @@ fn message(turn: usize, chance: &mut Chance) -> Vec<u8> {
             0 => Vec::new(),
             1 => vec![chance.pick(b"<a \x00")],
             2 => vec![b' '; chance.pick(&[32_768, 32_769])],
+            3 => {
+                let mut draft = sound_draft(1, chance);
+                quiet(&mut draft, chance);
+                written(draft, chance)
+            }
             _ => sound_message(chance),
         },
     }
 }
 
-/// The lengths of lent outputs, most often long enough; the last but one is that of the text.
+/// An output that is lent: its least length, and lengths of which most are too short.
+struct Lent {
+    least: usize,
+    odd: &'static [usize],
+}
+
+const HEADER: Lent = Lent { least: 252, odd: &[251, 251, 251, 250, 0, 1, 100, 253, 65_280] };
+const TEXT: Lent =
+    Lent { least: 7200, odd: &[7199, 7199, 7199, 7198, 1799, 1800, 1800, 1801, 0, 65_280] };
+const URI: Lent = Lent { least: 1024, odd: &[1023, 1023, 1023, 1022, 0, 1, 100, 65_280] };
+
+/// The lengths of lent outputs, most often long enough: half of those of every tenth turn have an
+/// odd one.
 fn caps<const COUNT: usize>(
-    least: [usize; COUNT],
+    lent: [Lent; COUNT],
     turn: usize,
     chance: &mut Chance,
 ) -> [usize; COUNT] {
-    let mut caps = least;
+    let mut caps = lent.each_ref().map(|lent| lent.least);
     if chance.once_in(4) {
         let over = chance.pick(&[1, 2, 100]);
         caps[chance.below(COUNT)] += over;
     }
-    if turn % 20 == 19 {
+    if turn % 10 == 9 && chance.once_in(2) {
         let place = chance.below(COUNT);
-        match chance.below(4) {
-            0 => caps[place] -= 1,
-            1 => caps[place] = chance.pick(&[0, 1, 100, 65_280]),
-            2 => caps[COUNT - 2] = chance.pick(&[1799, 1800, 1800, 1801, 7198, 7199]),
-            _ => {}
-        }
+        caps[place] = chance.pick(lent[place].odd);
     }
     caps
 }
 
-pub fn convert_case(turn: usize, chance: &mut Chance) -> String {
-    let message = message(turn, chance);
-    let mut station = station(chance);
-    let [header, text, uri] = caps([252, 7200, 1024], turn, chance);
-    if turn % 20 == 19 && chance.once_in(2) || chance.once_in(60) {
-        station = odd_station(chance);
+/// A message and a station, in hex.
+pub struct Conversion {
+    message: String,
+    station: String,
+}
+
+impl Conversion {
+    fn new(turn: usize, chance: &mut Chance) -> Conversion {
+        let message = message(turn, chance);
+        let odd = turn % 20 == 19 && chance.once_in(2) || chance.once_in(60);
+        let station = if odd { odd_station(chance) } else { station(chance) };
+        Conversion { message: to_hex(&message), station: to_hex(&station) }
     }
-    format!("convert {} {} {header} {text} {uri}", to_hex(&message), to_hex(&station))
+}
+
+/// The conversion that is asked here is left for a text.
+pub fn header_case(turn: usize, headed: &mut Option<Conversion>, chance: &mut Chance) -> String {
+    let Conversion { message, station } = headed.insert(Conversion::new(turn, chance));
+    let [header] = caps([HEADER], turn, chance);
+    format!("header {message} {station} {header}")
+}
+
+/// The text of what was asked for its header, if that was asked.
+pub fn text_case(turn: usize, headed: &mut Option<Conversion>, chance: &mut Chance) -> String {
+    let conversion = headed.take().unwrap_or_else(|| Conversion::new(turn, chance));
+    let Conversion { message, station } = conversion;
+    let [text, uri] = caps([TEXT, URI], turn, chance);
+    format!("text {message} {station} {text} {uri}")
 }
 
 /// The message of a turn of the Canadian mode; half of them have one of its own edits.
@@ -185,7 +217,7 @@ fn canadian_message(turn: usize, chance: &mut Chance) -> Vec<u8> {
 
 pub fn canadian_case(turn: usize, chance: &mut Chance) -> String {
     let message = canadian_message(turn, chance);
-    let [text, uri] = caps([7200, 1024], turn, chance);
+    let [text, uri] = caps([TEXT, URI], turn, chance);
     format!("canadian {} {text} {uri}", to_hex(&message))
 }
 

@@ -3,12 +3,12 @@
 
 use crate::chance::Chance;
 use crate::hex::{from_hex, to_hex};
-use crate::read::{READ, READ_BY_CANADIAN};
+use crate::read::{Parts, READ};
 use crate::tree::Tree;
 use crate::unread::{Change, Difference, LATER_INFO, PUT_IN, UNREAD};
 
 /// The calls that take a message.
-pub const CALLS: [&str; 4] = ["convert", "canadian", "offer", "program"];
+pub const CALLS: [&str; 5] = ["header", "text", "canadian", "offer", "program"];
 
 /// What differs in the messages of a pair.
 #[derive(Clone, Copy)]
@@ -30,8 +30,10 @@ impl Differing {
     fn differences(self, call: &str, tree: &Tree, chance: &mut Chance) -> Differences {
         let mut found = Differences::default();
         match self {
-            Differing::Read if call == "canadian" => found.add(&READ_BY_CANADIAN, tree, chance),
-            Differing::Read => found.add(&READ, tree, chance),
+            Differing::Read => {
+                let (kind, make) = chance.pick(&READ);
+                found.put(kind, make(tree, &Parts::of(call), chance), tree);
+            }
             Differing::Unread => {
                 // Few messages have a later info: it is looked for apart.
                 if chance.once_in(2) {
@@ -54,10 +56,15 @@ struct Differences {
 }
 
 impl Differences {
-    /// Adds a difference of one of these kinds, if there is a place for it apart from the others.
+    /// Adds a difference of one of these kinds, if there is a place for it.
     fn add(&mut self, kinds: &[Difference], tree: &Tree, chance: &mut Chance) {
         let (kind, make) = chance.pick(kinds);
-        let Some((range, bytes)) = make(tree, chance) else {
+        self.put(kind, make(tree, chance), tree);
+    }
+
+    /// Puts in a change, if there is one and it is apart from the others.
+    fn put(&mut self, kind: &'static str, change: Option<Change>, tree: &Tree) {
+        let Some((range, bytes)) = change else {
             return;
         };
         let apart = |(other, _): &Change| other.end < range.start || range.end < other.start;
@@ -87,8 +94,7 @@ impl Differences {
 
 /// Whether a message has the length and is of the subset.
 fn is_allowed(message: &[u8]) -> bool {
-    let (mut header, mut text, mut uri) = ([0; 252], [0; 7200], [0; 1024]);
-    let outcome = reference::convert(message, b"BENCH/01", &mut header, &mut text, &mut uri);
+    let outcome = reference::header(message, b"BENCH/01", &mut [0; 252]);
     !outcome.is_err_and(|refusal| matches!(refusal.number, 4 | 5))
 }
 

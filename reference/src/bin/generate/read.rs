@@ -3,32 +3,59 @@
 use crate::chance::Chance;
 use crate::letters::of_length;
 use crate::tree::{Element, Place, Tree};
-use crate::unread::{one_of, write_element, Change, Difference};
+use crate::unread::{one_of, write_element, Change};
+
+/// A kind of difference, and how to make it in some parts.
+type Difference = (&'static str, fn(&Tree, &Parts, &mut Chance) -> Option<Change>);
 
 pub const READ: [Difference; 9] = [
-    ("value-changed", |tree, chance| change_value(tree, is_leaf, chance)),
-    ("value-widened", |tree, chance| widen_value(tree, is_leaf, chance)),
-    ("element-put-into-leaf", put_element),
-    ("leaf-repeated", |tree, chance| repeat(tree, is_leaf, chance)),
-    ("leaf-taken-out", |tree, chance| take_out(tree, is_leaf, chance)),
-    ("container-repeated", |tree, chance| repeat(tree, is_inner, chance)),
-    ("container-taken-out", |tree, chance| take_out(tree, is_inner, chance)),
-    ("later-language-changed", |tree, chance| change_value(tree, is_later_language, chance)),
-    ("later-info-taken-out", |tree, chance| take_out(tree, is_later, chance)),
+    ("value-changed", |tree, parts, chance| change_value(tree, parts.values, chance)),
+    ("value-widened", |tree, parts, chance| widen_value(tree, parts.values, chance)),
+    ("element-put-into-leaf", |tree, _, chance| put_element(tree, chance)),
+    ("leaf-repeated", |tree, _, chance| repeat(tree, is_leaf, chance)),
+    ("leaf-taken-out", |tree, parts, chance| take_out(tree, parts.leaves, chance)),
+    ("container-repeated", |tree, parts, chance| repeat(tree, parts.repeated, chance)),
+    ("container-taken-out", |tree, parts, chance| take_out(tree, parts.containers, chance)),
+    ("later-language-changed", |tree, _, chance| change_value(tree, is_later_language, chance)),
+    ("later-info-taken-out", |tree, _, chance| take_out(tree, is_later, chance)),
 ];
 
-/// Differences on which the answers of the Canadian mode hang. They never hang on what is repeated
-/// whole.
-pub const READ_BY_CANADIAN: [Difference; 8] = [
-    ("value-changed", |tree, chance| change_value(tree, is_canadian_leaf, chance)),
-    ("value-widened", |tree, chance| widen_value(tree, is_canadian_leaf, chance)),
-    ("element-put-into-leaf", put_element),
-    ("leaf-repeated", |tree, chance| repeat(tree, is_leaf, chance)),
-    ("leaf-taken-out", |tree, chance| take_out(tree, is_leaf, chance)),
-    ("container-taken-out", |tree, chance| take_out(tree, is_canadian_inner, chance)),
-    ("later-language-changed", |tree, chance| change_value(tree, is_later_language, chance)),
-    ("later-info-taken-out", |tree, chance| take_out(tree, is_later, chance)),
-];
+/// Parts on which the answers of a call hang: leaves by their values, leaves and containers by
+/// standing there, containers by standing there twice.
+pub struct Parts {
+    values: Fits,
+    leaves: Fits,
+    containers: Fits,
+    repeated: Fits,
+}
+
+impl Parts {
+    pub fn of(call: &str) -> Parts {
+        match call {
+            "header" => Parts {
+                values: is_header_value,
+                leaves: is_header_leaf,
+                containers: is_header_container,
+                repeated: is_code_or_area,
+            },
+            "text" => Parts {
+                values: is_text_value,
+                leaves: is_leaf,
+                containers: is_inner,
+                repeated: is_code_or_area,
+            },
+            "canadian" => Parts {
+                values: is_canadian_value,
+                leaves: is_leaf,
+                containers: is_canadian_container,
+                repeated: |_| false,
+            },
+            _ => {
+                Parts { values: is_leaf, leaves: is_leaf, containers: is_inner, repeated: is_inner }
+            }
+        }
+    }
+}
 
 const VALUES: [&str; 9] =
     ["", "x", "SAME", "es", "en-US", "Test", "Cancel", "024031", "2010-04-05T14:45:30-04:00"];
@@ -42,18 +69,56 @@ fn is_inner(element: &Element) -> bool {
     element.place.is_container() && !matches!(element.place, Place::Alert | Place::Later)
 }
 
-/// A leaf whose value the Canadian mode asks for more than that it is no fault.
-fn is_canadian_leaf(element: &Element) -> bool {
-    let named = |name: &&[u8]| element.name.ends_with(name);
+fn is_leaf_of(element: &Element, names: &[&str]) -> bool {
+    is_leaf(element) && names.iter().any(|name| element.name.ends_with(name.as_bytes()))
+}
+
+fn is_code_or_area(element: &Element) -> bool {
+    matches!(element.place, Place::Code | Place::Area)
+}
+
+/// A leaf whose value a header shows, or asks for more than that it is no fault.
+fn is_header_value(element: &Element) -> bool {
     match element.parent {
-        Place::Alert => [&b"status"[..], b"msgType", b"scope"].iter().any(named),
-        Place::Info => [&b"description"[..], b"instruction"].iter().any(named),
+        Place::Alert => is_leaf_of(element, &["sent", "status", "msgType", "scope"]),
+        Place::Info => is_leaf_of(element, &["expires"]),
+        Place::Code | Place::Parameter => is_leaf(element),
+        _ => false,
+    }
+}
+
+/// A leaf that a header cannot be without.
+fn is_header_leaf(element: &Element) -> bool {
+    match element.parent {
+        Place::Alert => is_leaf(element),
+        _ => is_header_value(element),
+    }
+}
+
+fn is_header_container(element: &Element) -> bool {
+    is_code_or_area(element) || element.place == Place::Info
+}
+
+/// The same of a text and its audio.
+fn is_text_value(element: &Element) -> bool {
+    match element.parent {
+        Place::Info => is_leaf(element) && !is_leaf_of(element, &["language"]),
+        Place::Resource => is_leaf(element),
+        _ => is_header_value(element),
+    }
+}
+
+/// The same of the Canadian mode.
+fn is_canadian_value(element: &Element) -> bool {
+    match element.parent {
+        Place::Alert => is_leaf_of(element, &["status", "msgType", "scope"]),
+        Place::Info => is_leaf_of(element, &["description", "instruction"]),
         Place::Parameter | Place::Resource => is_leaf(element),
         _ => false,
     }
 }
 
-fn is_canadian_inner(element: &Element) -> bool {
+fn is_canadian_container(element: &Element) -> bool {
     matches!(element.place, Place::Info | Place::Parameter | Place::Resource)
 }
 

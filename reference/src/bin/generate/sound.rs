@@ -82,8 +82,8 @@ fn length_without(draft: &Draft, names: &[&str]) -> Option<usize> {
         plain.info()?.remove_all(name);
     }
     let message = render(&plain, &mut Chance::seeded(0));
-    let (mut header, mut text, mut uri) = ([0; 252], [0; 7200], [0; 1024]);
-    let done = reference::convert(&message, b"BENCH/01", &mut header, &mut text, &mut uri);
+    let (mut text, mut uri) = ([0; 7200], [0; 1024]);
+    let done = reference::text(&message, b"BENCH/01", &mut text, &mut uri);
     done.ok().map(|done| String::from_utf8_lossy(&text[..done.text]).chars().count())
 }
 
@@ -353,12 +353,19 @@ pub fn cancel(draft: &mut Draft, chance: &mut Chance) {
     draft.refer("Cancel", &groups(count, chance));
 }
 
-/// A Cancel that is quiet for one of the four reasons.
+/// A Cancel that is quiet for one of the four reasons. Half say that they must be carried, some
+/// have audio, and nothing of it is given.
 pub fn quiet(draft: &mut Draft, chance: &mut Chance) {
     cancel(draft, chance);
+    if chance.once_in(3) {
+        resources(draft, chance);
+    }
     let Some(info) = draft.info() else {
         return;
     };
+    if chance.once_in(2) {
+        info.add_first(Element::pair("parameter", "EAS-Must-Carry", "True"));
+    }
     match chance.below(6) {
         0 => draft.root.remove_all("info"),
         1 => info.remove_all("eventCode"),
@@ -367,7 +374,6 @@ pub fn quiet(draft: &mut Draft, chance: &mut Chance) {
         4 => {
             info.remove_all("expires");
             info.parameter("EAS-ORG", "XXX");
-            info.parameter("EAS-Must-Carry", "True");
         }
         _ => {
             if let Some(name) = info.find(&["eventCode", "valueName"]) {
