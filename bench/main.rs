@@ -1,6 +1,7 @@
-//! bench MESSAGES SEED: our conversion, the independent converter's and a fast one's, on the same messages, in one run: so many generated ones of each set, and the
-//! worst beside plain text. Every answer is compared: number, field, lengths, and every byte of the outputs; those to damaged copies too, which are not timed.
-//! Nothing is said of times where two answers differ. bench count SET CONVERTER MESSAGES SEED: only converts so many by one of them, and prints their bytes.
+//! bench MESSAGES SEED: our conversion, the independent converter's and a fast one's, on the same messages, in one run: so many generated ones of each set, by both
+//! calls one after the other and by each alone, and the worst beside plain text, by both. Every answer is compared: number, field, lengths, and every byte of the
+//! outputs; those to damaged copies too, which are not timed. Nothing is said of times where two answers differ. bench count SET CALLS CONVERTER MESSAGES SEED, CALLS
+//! being both, header or text: only asks so many of one of them, and prints their bytes.
 
 mod converters;
 mod damage;
@@ -8,7 +9,7 @@ mod messages;
 mod times;
 mod worst;
 
-use converters::{alike, Convert, Outputs, CONVERTERS, COUNT};
+use converters::{alike, Asked, Converter, Outputs, ASKED, CONVERTERS, COUNT};
 use damage::damaged;
 use messages::{message, Numbers, Spelling, SPELLINGS};
 use std::process::ExitCode;
@@ -52,7 +53,7 @@ impl Tally {
             ));
         }
         println!(
-            "{} {what} of {} bytes on average, {} answered 0, {refused} refused, all alike by all four",
+            "{} {what} of {} bytes on average, {} answered 0, {refused} refused, all alike by all four, number and field alike by both calls",
             self.messages,
             self.bytes / self.messages,
             self.zeros
@@ -65,7 +66,7 @@ impl Tally {
 fn measure(spelling: &Spelling, count: u64, seed: u64) -> Result<(), String> {
     let mut numbers = Numbers::new(seed);
     let (mut whole, mut broken) = (Tally::default(), Tally::default());
-    let (mut times, mut out) = (Times::default(), Outputs::new());
+    let (mut times, mut out) = (ASKED.map(Times::of), Outputs::new());
     for _ in 0..count.div_ceil(HELD) {
         let held: Vec<Vec<u8>> = (0..HELD).map(|_| message(&mut numbers, spelling)).collect();
         for message in &held {
@@ -74,21 +75,25 @@ fn measure(spelling: &Spelling, count: u64, seed: u64) -> Result<(), String> {
                 broken.add(&damaged(message, &mut numbers))?;
             }
         }
-        times.add(&held, &mut out);
+        for times in &mut times {
+            times.add(&held, &mut out);
+        }
     }
     println!("{}:", spelling.set);
     whole.print("messages")?;
     broken.print("damaged copies")?;
-    times.print();
+    for times in &times {
+        times.print();
+    }
     Ok(())
 }
 
-/// The median time of a conversion.
-fn median(message: &Vec<u8>, convert: Convert) -> Duration {
+/// The median time of both calls.
+fn median(message: &Vec<u8>, converter: &Converter) -> Duration {
     let mut out = Outputs::new();
     let (mut times, mut all) = (Vec::new(), Duration::ZERO);
     while times.len() < ROUNDS || all < WHILE {
-        let time = timed(std::slice::from_ref(message), &mut out, convert);
+        let time = timed(std::slice::from_ref(message), &mut out, Asked::Both, converter);
         times.push(time);
         all += time;
     }
@@ -103,14 +108,18 @@ fn measure_worst() -> Result<(), String> {
     if !all.all(|message| alike(message) == Some(0)) {
         return Err("One of the worst messages is not answered 0 by all, and alike.".to_string());
     }
-    let of_plain = CONVERTERS.map(|(_, convert)| median(&plain, convert));
-    println!("messages of {} bytes, median times; the others beside plain text", plain.len());
-    print_row("", CONVERTERS.map(|(name, _)| name.to_string()));
+    let of_plain = CONVERTERS.each_ref().map(|converter| median(&plain, converter));
+    println!(
+        "{}: messages of {} bytes, median times; the others beside plain text",
+        Asked::Both.label(),
+        plain.len()
+    );
+    print_row("", CONVERTERS.each_ref().map(|converter| converter.name.to_string()));
     print_row("plain text", of_plain.map(|time| format!("{time:.1?}")));
     for (name, message) in &worst {
         let mut place = 0;
-        let beside = CONVERTERS.map(|(_, convert)| {
-            let ratio = median(message, convert).as_secs_f64() / of_plain[place].as_secs_f64();
+        let beside = CONVERTERS.each_ref().map(|converter| {
+            let ratio = median(message, converter).as_secs_f64() / of_plain[place].as_secs_f64();
             place += 1;
             format!("{ratio:.2} x")
         });
@@ -127,21 +136,28 @@ fn print_row(name: &str, columns: [String; COUNT]) {
 /// The call whose instructions are counted: one for all messages, so that the counting begins once and ends once.
 #[no_mangle]
 #[inline(never)]
-pub fn counted_conversions(convert: Convert, messages: &[Vec<u8>], out: &mut Outputs) {
+pub fn counted_conversions(
+    converter: &Converter,
+    asked: Asked,
+    messages: &[Vec<u8>],
+    out: &mut Outputs,
+) {
     for message in messages {
-        std::hint::black_box(convert(message, out));
+        converter.ask(asked, message, out);
     }
 }
 
-/// Converts by one converter alone, and prints how many bytes.
-fn count(set: &str, name: &str, count: u64, seed: u64) -> Result<(), String> {
+/// Asks one converter alone, and prints how many bytes.
+fn count(set: &str, calls: &str, name: &str, count: u64, seed: u64) -> Result<(), String> {
     let spelling = SPELLINGS.iter().find(|spelling| spelling.set == set);
     let spelling = spelling.ok_or("There is no such set.")?;
-    let found = CONVERTERS.iter().find(|(known, _)| *known == name);
-    let (_, convert) = found.ok_or("There is no such converter.")?;
+    let asked = ASKED.into_iter().find(|asked| asked.name() == calls);
+    let asked = asked.ok_or("There are no such calls.")?;
+    let converter = CONVERTERS.iter().find(|converter| converter.name == name);
+    let converter = converter.ok_or("There is no such converter.")?;
     let mut numbers = Numbers::new(seed);
     let messages: Vec<Vec<u8>> = (0..count).map(|_| message(&mut numbers, spelling)).collect();
-    counted_conversions(*convert, &messages, &mut Outputs::new());
+    counted_conversions(converter, asked, &messages, &mut Outputs::new());
     println!("{}", messages.iter().map(Vec::len).sum::<usize>());
     Ok(())
 }
@@ -155,8 +171,8 @@ fn run(words: &[String]) -> Result<(), String> {
             }
             measure_worst()
         }
-        [word, set, name, messages, seed] if word == "count" => {
-            count(set, name, number(messages)?, number(seed)?)
+        [word, set, calls, name, messages, seed] if word == "count" => {
+            count(set, calls, name, number(messages)?, number(seed)?)
         }
         _ => Err("Give the number of messages and the seed.".to_string()),
     }

@@ -1,21 +1,26 @@
 //! Times of the converters on generated messages: block by block next to each other, so that what slows the machine slows all of them.
 
-use crate::converters::{Convert, Outputs, CONVERTERS, COUNT};
+use crate::converters::{Asked, Converter, Outputs, CONVERTERS, COUNT};
 use std::time::{Duration, Instant};
 
-/// The time of converting messages, outputs cleared before each call.
-pub fn timed(messages: &[Vec<u8>], out: &mut Outputs, convert: Convert) -> Duration {
+/// The time of asking messages, outputs cleared before each.
+pub fn timed(
+    messages: &[Vec<u8>],
+    out: &mut Outputs,
+    asked: Asked,
+    converter: &Converter,
+) -> Duration {
     let began = Instant::now();
     for message in messages {
-        out.clear();
-        std::hint::black_box(convert(message, out));
+        out.clear(asked);
+        converter.ask(asked, message, out);
     }
     began.elapsed()
 }
 
-/// What each block of messages took.
-#[derive(Default)]
+/// What each block of messages took that was asked this.
 pub struct Times {
+    asked: Asked,
     blocks: Vec<Block>,
 }
 
@@ -26,25 +31,30 @@ struct Block {
 }
 
 impl Times {
-    /// Converts a block by each of them; another is the first each time.
+    pub fn of(asked: Asked) -> Times {
+        Times { asked, blocks: Vec::new() }
+    }
+
+    /// Asks a block of each of them; another is the first each time.
     pub fn add(&mut self, messages: &[Vec<u8>], out: &mut Outputs) {
         let mut seconds = [0.0; COUNT];
         for turn in 0..COUNT {
             let which = (self.blocks.len() + turn) % COUNT;
-            seconds[which] = timed(messages, out, CONVERTERS[which].1).as_secs_f64();
+            seconds[which] = timed(messages, out, self.asked, &CONVERTERS[which]).as_secs_f64();
         }
         self.blocks.push(Block { bytes: messages.iter().map(Vec::len).sum(), seconds });
     }
 
     pub fn print(&self) {
-        println!("{} blocks of messages, median and quartiles of the blocks:", self.blocks.len());
-        for (which, (name, _)) in CONVERTERS.iter().enumerate() {
+        let (asked, count) = (self.asked.label(), self.blocks.len());
+        println!("{asked}: {count} blocks of messages, median and quartiles of the blocks:");
+        for (which, Converter { name, .. }) in CONVERTERS.iter().enumerate() {
             let [low, median, high] =
                 self.quartiles(|block| block.bytes as f64 / block.seconds[which]);
             let [low, median, high] = [low / 1e6, median / 1e6, high / 1e6];
             println!("{name:23}{median:8.1} MB/s ({low:.1} to {high:.1})");
         }
-        for (which, (name, _)) in CONVERTERS.iter().enumerate().skip(1) {
+        for (which, Converter { name, .. }) in CONVERTERS.iter().enumerate().skip(1) {
             let [low, median, high] =
                 self.quartiles(|block| block.seconds[0] / block.seconds[which]);
             println!(

@@ -31,8 +31,8 @@ pub struct Alert<'a> {
     pub parts_of_other: bool,
 }
 
-/// Reads a whole message; the long texts stand in the parts.
-pub fn read<'a>(message: &'a [u8], parts: &mut Parts) -> Step<Alert<'a>> {
+/// Reads a whole message; the long texts stand in the parts, where there are any.
+pub fn read<'a>(message: &'a [u8], parts: Option<&mut Parts>) -> Step<Alert<'a>> {
     let mut reader = Reader::on(message);
     let mut alert = Alert::default();
     reader.declaration()?;
@@ -65,7 +65,7 @@ impl<'a> Alert<'a> {
         &mut self,
         reader: &mut Reader<'a>,
         tag: &Tag<'a>,
-        parts: &mut Parts,
+        mut parts: Option<&mut Parts>,
     ) -> Step<()> {
         if tag.empty {
             return Ok(());
@@ -78,7 +78,7 @@ impl<'a> Alert<'a> {
             let Some(child) = reader.child_here(tag)? else {
                 return Ok(());
             };
-            self.read_child(reader, &child, parts)?;
+            self.read_child(reader, &child, parts.as_deref_mut())?;
         }
     }
 
@@ -102,7 +102,7 @@ impl<'a> Alert<'a> {
         &mut self,
         reader: &mut Reader<'a>,
         child: &Tag<'a>,
-        parts: &mut Parts,
+        parts: Option<&mut Parts>,
     ) -> Step<()> {
         let leaf = match child.name_in(self.prefix) {
             b"info" => return self.read_info(reader, child, parts),
@@ -119,7 +119,12 @@ impl<'a> Alert<'a> {
     }
 
     /// The first info in English stays, before it the first of all.
-    fn read_info(&mut self, reader: &mut Reader<'a>, tag: &Tag<'a>, parts: &mut Parts) -> Step<()> {
+    fn read_info(
+        &mut self,
+        reader: &mut Reader<'a>,
+        tag: &Tag<'a>,
+        parts: Option<&mut Parts>,
+    ) -> Step<()> {
         if self.selected_is_english {
             let language = Info::read_language(reader, self.prefix, tag)?;
             self.language_fault |= language.is_at_fault();
@@ -141,7 +146,7 @@ impl<'a> Alert<'a> {
         &mut self,
         reader: &mut Reader<'a>,
         tag: &Tag<'a>,
-        parts: &mut Parts,
+        parts: Option<&mut Parts>,
     ) -> Step<()> {
         let mut info = Info::new();
         info.read(reader, self.prefix, tag, parts)?;

@@ -81,9 +81,11 @@ impl<'a> Info<'a> {
         reader: &mut Reader<'a>,
         prefix: &[u8],
         tag: &Tag<'a>,
-        parts: &mut Parts,
+        mut parts: Option<&mut Parts>,
     ) -> Step<()> {
-        parts.clear();
+        if let Some(parts) = parts.as_deref_mut() {
+            parts.clear();
+        }
         if tag.empty {
             return Ok(());
         }
@@ -95,7 +97,7 @@ impl<'a> Info<'a> {
             let Some(child) = reader.child_here(tag)? else {
                 return Ok(());
             };
-            self.read_child(reader, prefix, &child, parts)?;
+            self.read_child(reader, prefix, &child, parts.as_deref_mut())?;
         }
     }
 
@@ -129,7 +131,7 @@ impl<'a> Info<'a> {
         reader: &mut Reader<'a>,
         prefix: &[u8],
         tag: &Tag<'a>,
-        parts: &mut Parts,
+        parts: Option<&mut Parts>,
     ) -> Step<()> {
         match tag.name_in(prefix) {
             b"parameter" => self.read_parameter(reader, prefix, tag),
@@ -139,13 +141,16 @@ impl<'a> Info<'a> {
             b"language" => self.language.read(reader, tag, IN_INFO),
             b"expires" => self.expires.read(reader, tag, IN_INFO),
             b"senderName" => {
-                self.sender_name.read_words(reader, tag, IN_INFO, &mut parts.sender_name)
+                let words = parts.map(|parts| &mut parts.sender_name);
+                self.sender_name.read_words(reader, tag, IN_INFO, words)
             }
             b"description" => {
-                self.description.read_words(reader, tag, IN_INFO, &mut parts.description)
+                let words = parts.map(|parts| &mut parts.description);
+                self.description.read_words(reader, tag, IN_INFO, words)
             }
             b"instruction" => {
-                self.instruction.read_words(reader, tag, IN_INFO, &mut parts.instruction)
+                let words = parts.map(|parts| &mut parts.instruction);
+                self.instruction.read_words(reader, tag, IN_INFO, words)
             }
             _ => reader.skip(tag, IN_INFO),
         }

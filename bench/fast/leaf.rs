@@ -87,18 +87,18 @@ impl<'a> Leaf<'a> {
         self.read_from(start, reader, tag, depth)
     }
 
-    /// The same where the value is kept as words.
+    /// The same where the value is kept as words, if there is room for them.
     #[inline(never)]
     pub fn read_words<const N: usize>(
         &mut self,
         reader: &mut Reader<'a>,
         tag: &Tag<'a>,
         depth: u32,
-        words: &mut Words<N>,
+        words: Option<&mut Words<N>>,
     ) -> Step<()> {
         let start = reader.rest;
         reader.marked = false;
-        if self.count == 0 && !tag.empty {
+        if let Some(words) = words.filter(|_| self.count == 0 && !tag.empty) {
             reader.words(words)?;
         }
         self.read_from(start, reader, tag, depth)
