@@ -45,18 +45,21 @@ static int convert(const uint8_t *message, size_t length)
     static const uint8_t station[STUIVERHAAG_STATION_LENGTH] = {
         'B', 'E', 'N', 'C', 'H', '/', '0', '1',
     };
-    uint64_t answer = stuiverhaag_convert(message, length, station, sizeof station,
-                                          header, sizeof header, text, sizeof text,
-                                          uri, sizeof uri);
+    uint64_t of_header = stuiverhaag_header(message, length, station, sizeof station,
+                                            header, sizeof header);
+    uint64_t of_text;
 
-    if (!print_number(answer))
+    if (!print_number(of_header))
         return EXIT_FAILURE;
-    if (stuiverhaag_header_length(answer) == 0)
+    if (stuiverhaag_header_length(of_header) == 0)
         return EXIT_SUCCESS; /* A Cancel that activates nothing. */
-    print("header", header, stuiverhaag_header_length(answer));
-    print_uri(answer);
-    printf("carry %s\n", stuiverhaag_carry(answer) != 0 ? "yes" : "no");
-    print("text", text, stuiverhaag_text_length(answer));
+    /* The outputs are long enough, so that this call answers 0 as the other did. */
+    of_text = stuiverhaag_text(message, length, station, sizeof station,
+                               text, sizeof text, uri, sizeof uri);
+    print("header", header, stuiverhaag_header_length(of_header));
+    print_uri(of_text);
+    printf("carry %s\n", stuiverhaag_carry(of_header) != 0 ? "yes" : "no");
+    print("text", text, stuiverhaag_text_length(of_text));
     return EXIT_SUCCESS;
 }
 
@@ -75,9 +78,12 @@ int main(int count, char **words)
 {
     /* With room for one byte more, a message that is too long is refused and not cut short. */
     static uint8_t message[STUIVERHAAG_MESSAGE_LONGEST + 1];
-    size_t length = fread(message, 1, sizeof message, stdin);
+    size_t length;
 
-    if (count > 1 && strcmp(words[1], "canadian") == 0)
-        return convert_for_canada(message, length);
-    return convert(message, length);
+    if (count > 2 || (count == 2 && strcmp(words[1], "canadian") != 0)) {
+        fprintf(stderr, "Give no word, or the word canadian.\n");
+        return EXIT_FAILURE;
+    }
+    length = fread(message, 1, sizeof message, stdin);
+    return count == 2 ? convert_for_canada(message, length) : convert(message, length);
 }

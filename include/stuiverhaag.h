@@ -150,26 +150,49 @@ enum stuiverhaag_originators {
 #define STUIVERHAAG_RECORD_HEADER_LENGTH 243
 
 /*
- * Converts a CAP message. Lent to be read: the message, and the station. Lent to be written: the
- * header, the alert text, and the uri of the audio.
+ * A CAP message is converted by two calls. stuiverhaag_header gives the header, and whether the
+ * alert must be carried; stuiverhaag_text gives the alert text and the audio. Who wants the header
+ * alone makes only the first, and lends no text.
+ *
+ * Number 2 asks in each call only what that call writes. Where all outputs are long enough, both
+ * answer the same number and field to a message and a station.
+ *
+ * A Cancel that activates nothing is asked 2 to 10 as well, and then answered 0 by both: nothing is
+ * written, and every part of the answer is 0.
  *
  * A character is a code point. Text, attribute values and comments of the message may have every
  * character of XML 1.0, in text and values also by a reference of 1 to 7 digits. White space is 9,
  * 10, 13 and 32 alone. A character outside the range of an identifier, sender, time, code or other
  * value that is judged gets the number that the value gets for any other fault.
+ */
+
+/*
+ * Gives the header of a CAP message. Lent to be read: the message, and the station. Lent to be
+ * written: the header.
+ *
+ * Numbers 0 and 2 to 14. After 0 the answer has header_length and carry. Both are 0 for a Cancel
+ * that activates nothing, whatever its EAS-Must-Carry says; any other message has a header.
+ */
+uint64_t stuiverhaag_header(const uint8_t *message, size_t message_length,
+                            const uint8_t *station, size_t station_length,
+                            uint8_t *header, size_t header_length);
+
+/*
+ * Gives the text and the audio of a CAP message. Lent to be read: the message, and the station,
+ * which is judged though nothing is made of it. Lent to be written: the alert text, and the uri of
+ * the audio.
  *
  * The text has at most STUIVERHAAG_TEXT_CHARACTERS characters, each whole: no cut falls inside one.
  * The uri has 1 to STUIVERHAAG_URI_LENGTH bytes of 32 to 126; a resource whose uri has any other
  * character is passed over, and the choice goes on to the next.
  *
- * Numbers 0 and 2 to 14. After 0 the answer has header_length, text_length, audio, uri_length
- * and carry. A Cancel that activates nothing answers 0 with all of these 0.
+ * Numbers 0 and 2 to 14. After 0 the answer has text_length, audio and uri_length. All are 0 for a
+ * Cancel that activates nothing; any other message has a text.
  */
-uint64_t stuiverhaag_convert(const uint8_t *message, size_t message_length,
-                             const uint8_t *station, size_t station_length,
-                             uint8_t *header, size_t header_length,
-                             uint8_t *text, size_t text_length,
-                             uint8_t *uri, size_t uri_length);
+uint64_t stuiverhaag_text(const uint8_t *message, size_t message_length,
+                          const uint8_t *station, size_t station_length,
+                          uint8_t *text, size_t text_length,
+                          uint8_t *uri, size_t uri_length);
 
 /*
  * Gives the text and the audio of a CAP message in the Canadian mode. Lent to be read: the
@@ -179,7 +202,7 @@ uint64_t stuiverhaag_convert(const uint8_t *message, size_t message_length,
  * name in any letter case. Where there is none, it is the description, and after a space the
  * instruction unless that is empty. What has more than STUIVERHAAG_TEXT_CHARACTERS is cut there,
  * between two characters and without a mark. Characters are taken, and the audio is chosen, as by
- * stuiverhaag_convert.
+ * stuiverhaag_text.
  *
  * Numbers 0, 2, 4 to 9 and 18. After 0 the answer has text_length, which is never 0, audio and
  * uri_length. A Cancel is answered as an Alert is.
@@ -250,39 +273,39 @@ static inline unsigned stuiverhaag_number(uint64_t answer)
 }
 
 /*
- * Of stuiverhaag_convert, stuiverhaag_canadian and stuiverhaag_offer: after 7 one of enum
- * stuiverhaag_fields, else 0.
+ * Of stuiverhaag_header, stuiverhaag_text, stuiverhaag_canadian and stuiverhaag_offer: after 7 one
+ * of enum stuiverhaag_fields, else 0.
  */
 static inline unsigned stuiverhaag_field(uint64_t answer)
 {
     return stuiverhaag_bits(answer, 8, 8);
 }
 
-/* Of stuiverhaag_convert and stuiverhaag_write_header: how many bytes the header has. */
+/* Of stuiverhaag_header and stuiverhaag_write_header: how many bytes the header has. */
 static inline size_t stuiverhaag_header_length(uint64_t answer)
 {
     return stuiverhaag_bits(answer, 16, 8);
 }
 
-/* Of stuiverhaag_convert and stuiverhaag_canadian: one of enum stuiverhaag_audios. */
+/* Of stuiverhaag_text and stuiverhaag_canadian: one of enum stuiverhaag_audios. */
 static inline unsigned stuiverhaag_audio(uint64_t answer)
 {
     return stuiverhaag_bits(answer, 24, 4);
 }
 
-/* Of stuiverhaag_convert: 1 where the alert must be carried, else 0. */
+/* Of stuiverhaag_header: 1 where the alert must be carried, else 0. */
 static inline unsigned stuiverhaag_carry(uint64_t answer)
 {
     return stuiverhaag_bits(answer, 28, 4);
 }
 
-/* Of stuiverhaag_convert and stuiverhaag_canadian: how many bytes the uri has. */
+/* Of stuiverhaag_text and stuiverhaag_canadian: how many bytes the uri has. */
 static inline size_t stuiverhaag_uri_length(uint64_t answer)
 {
     return stuiverhaag_bits(answer, 32, 16);
 }
 
-/* Of stuiverhaag_convert and stuiverhaag_canadian: how many bytes the text has, not characters. */
+/* Of stuiverhaag_text and stuiverhaag_canadian: how many bytes the text has, not characters. */
 static inline size_t stuiverhaag_text_length(uint64_t answer)
 {
     return stuiverhaag_bits(answer, 48, 16);

@@ -24,13 +24,14 @@ static bool messages()
     static const uint8_t message[] = {'<', 'a', '>'};
     static uint8_t board[STUIVERHAAG_RECORD_LENGTH];
     uint8_t header[STUIVERHAAG_HEADER_LENGTH], text[STUIVERHAAG_TEXT_LENGTH], uri[STUIVERHAAG_URI_LENGTH];
-    uint64_t converted = stuiverhaag_convert(message, sizeof message, station, sizeof station, header, sizeof header,
-                                             text, sizeof text, uri, sizeof uri);
+    uint64_t of_header = stuiverhaag_header(message, sizeof message, station, sizeof station, header, sizeof header);
+    uint64_t of_text = stuiverhaag_text(message, sizeof message, station, sizeof station, text, sizeof text,
+                                        uri, sizeof uri);
     uint64_t canadian = stuiverhaag_canadian(message, sizeof message, text, sizeof text, uri, sizeof uri);
     uint64_t offered = stuiverhaag_offer(board, sizeof board, message, sizeof message);
     uint64_t handed = stuiverhaag_hand_out(board, sizeof board);
 
-    return stuiverhaag_number(converted) == STUIVERHAAG_XML_BAD &&
+    return stuiverhaag_number(of_header) == STUIVERHAAG_XML_BAD && stuiverhaag_number(of_text) == STUIVERHAAG_XML_BAD &&
            stuiverhaag_number(canadian) == STUIVERHAAG_XML_BAD && stuiverhaag_number(offered) == STUIVERHAAG_XML_BAD &&
            stuiverhaag_number(handed) == STUIVERHAAG_NOTHING_DUE;
 }

@@ -1,6 +1,6 @@
 /*
- * Answers case lines (docs/CASES.md) as a host in C: `convert`, `canadian`, `read`, `write`, `offer` and `handout`, and `?`
- * to any other.
+ * Answers case lines (docs/CASES.md) as a host in C: `header`, `text`, `canadian`, `read`, `write`, `offer` and
+ * `handout`, and `?` to any other.
  *
  * Every slice is lent between guard bytes, and an output is filled with a pattern. After a call every
  * byte that it must leave alone is compared with what it was: the guards, what was lent to be read, an
@@ -18,7 +18,7 @@
 #define LARGEST_CAP 65280
 #define MOST_DIGITS 9
 #define MOST_FIELDS 10
-#define MOST_LENT 5
+#define MOST_LENT 4
 #define GUARD 64
 
 static unsigned long line_number;
@@ -366,58 +366,75 @@ static bool answer_write(const struct line *line, struct loans *loans)
     return true;
 }
 
-/* The two outputs that both modes have begin with what the answer says was written. */
-static void text_answered(struct lent *text, struct lent *uri, uint64_t answer)
-{
-    check_refusal(answer);
-    text->written = stuiverhaag_text_length(answer);
-    uri->written = stuiverhaag_uri_length(answer);
-}
-
 /* `number field`, with which every answer to a message begins. */
 static void print_number(uint64_t answer)
 {
     printf("%u %u ", stuiverhaag_number(answer), stuiverhaag_field(answer));
 }
 
-/* `audio URI` */
-static void print_audio(uint64_t answer, const struct lent *uri)
-{
-    printf("%u ", stuiverhaag_audio(answer));
-    print_written(uri);
-    putchar(' ');
-}
-
-/* convert MESSAGE STATION HEADERCAP TEXTCAP URICAP */
-static bool answer_convert(const struct line *line, struct loans *loans)
+/* header MESSAGE STATION HEADERCAP */
+static bool answer_header(const struct line *line, struct loans *loans)
 {
     const struct lent *message, *station;
-    struct lent *header, *text, *uri;
+    struct lent *header;
     uint64_t answer;
 
-    if (line->count != 6)
+    if (line->count != 4)
         return false;
     message = lend_hex(loans, line->field[1]);
     station = lend_hex(loans, line->field[2]);
     header = lend_output(loans, line->field[3]);
-    text = lend_output(loans, line->field[4]);
-    uri = lend_output(loans, line->field[5]);
-    if (message == NULL || station == NULL || header == NULL || text == NULL || uri == NULL)
+    if (message == NULL || station == NULL || header == NULL)
         return false;
     note(loans);
-    answer = stuiverhaag_convert(message->bytes, message->length, station->bytes, station->length,
-                                 header->bytes, header->length, text->bytes, text->length,
-                                 uri->bytes, uri->length);
-    text_answered(text, uri, answer);
+    answer = stuiverhaag_header(message->bytes, message->length, station->bytes, station->length,
+                                header->bytes, header->length);
+    check_refusal(answer);
+    if (stuiverhaag_audio(answer) != 0 || stuiverhaag_uri_length(answer) != 0 || stuiverhaag_text_length(answer) != 0)
+        broken("A header is answered with an audio or a text.");
     header->written = stuiverhaag_header_length(answer);
     compare(loans);
     print_number(answer);
     print_written(header);
+    printf(" %u\n", stuiverhaag_carry(answer));
+    return true;
+}
+
+/* Checks and prints what either mode answers: `number field audio URI TEXT`. */
+static void text_answered(struct loans *loans, struct lent *text, struct lent *uri, uint64_t answer)
+{
+    check_refusal(answer);
+    if (stuiverhaag_header_length(answer) != 0 || stuiverhaag_carry(answer) != 0)
+        broken("A text is answered with a header or a carry.");
+    text->written = stuiverhaag_text_length(answer);
+    uri->written = stuiverhaag_uri_length(answer);
+    compare(loans);
+    print_number(answer);
+    printf("%u ", stuiverhaag_audio(answer));
+    print_written(uri);
     putchar(' ');
-    print_audio(answer, uri);
-    printf("%u ", stuiverhaag_carry(answer));
     print_written(text);
     putchar('\n');
+}
+
+/* text MESSAGE STATION TEXTCAP URICAP */
+static bool answer_text(const struct line *line, struct loans *loans)
+{
+    const struct lent *message, *station;
+    struct lent *text, *uri;
+
+    if (line->count != 5)
+        return false;
+    message = lend_hex(loans, line->field[1]);
+    station = lend_hex(loans, line->field[2]);
+    text = lend_output(loans, line->field[3]);
+    uri = lend_output(loans, line->field[4]);
+    if (message == NULL || station == NULL || text == NULL || uri == NULL)
+        return false;
+    note(loans);
+    text_answered(loans, text, uri,
+                  stuiverhaag_text(message->bytes, message->length, station->bytes, station->length,
+                                   text->bytes, text->length, uri->bytes, uri->length));
     return true;
 }
 
@@ -426,7 +443,6 @@ static bool answer_canadian(const struct line *line, struct loans *loans)
 {
     const struct lent *message;
     struct lent *text, *uri;
-    uint64_t answer;
 
     if (line->count != 4)
         return false;
@@ -436,16 +452,9 @@ static bool answer_canadian(const struct line *line, struct loans *loans)
     if (message == NULL || text == NULL || uri == NULL)
         return false;
     note(loans);
-    answer = stuiverhaag_canadian(message->bytes, message->length, text->bytes, text->length,
-                                  uri->bytes, uri->length);
-    text_answered(text, uri, answer);
-    if (stuiverhaag_header_length(answer) != 0 || stuiverhaag_carry(answer) != 0)
-        broken("The Canadian mode answers a header or a carry.");
-    compare(loans);
-    print_number(answer);
-    print_audio(answer, uri);
-    print_written(text);
-    putchar('\n');
+    text_answered(loans, text, uri,
+                  stuiverhaag_canadian(message->bytes, message->length, text->bytes, text->length,
+                                       uri->bytes, uri->length));
     return true;
 }
 
@@ -509,8 +518,10 @@ static bool answer_line(const struct line *line, struct loans *loans)
         return answer_read(line, loans);
     if (is(line->field[0], "write"))
         return answer_write(line, loans);
-    if (is(line->field[0], "convert"))
-        return answer_convert(line, loans);
+    if (is(line->field[0], "header"))
+        return answer_header(line, loans);
+    if (is(line->field[0], "text"))
+        return answer_text(line, loans);
     if (is(line->field[0], "canadian"))
         return answer_canadian(line, loans);
     if (is(line->field[0], "offer"))

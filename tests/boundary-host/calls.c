@@ -4,16 +4,12 @@
 #include "characters.h"
 #include "lent.h"
 #include "replay.h"
-#include "stuiverhaag.h"
 
 #include <stdio.h>
 #include <string.h>
 
-#define NUMBERS (STUIVERHAAG_NO_TEXT + 1)
-#define FIELDS (STUIVERHAAG_FIELD_OTHER + 1)
-
 /* What a slice is to a call. One before BOARD is read, a board is changed, and one behind it is an output. */
-enum use { MESSAGE, STATION, PART, HEADER, BOARD, HEADER_OUTPUT, TEXT_OUTPUT, URI_OUTPUT };
+enum use { MESSAGE, STATION, PART, HEADER, BOARD, HEADER_OUTPUT, TEXT_OUTPUT, URI_OUTPUT, USES };
 
 /* An output has NULL for its bytes. */
 struct used {
@@ -37,18 +33,29 @@ struct answered {
 };
 
 static const char *const names[CALLS] = {
-    "stuiverhaag_convert", "stuiverhaag_canadian", "stuiverhaag_read_header", "stuiverhaag_write_header",
-    "stuiverhaag_offer", "stuiverhaag_hand_out",
+    "stuiverhaag_header", "stuiverhaag_text", "stuiverhaag_canadian", "stuiverhaag_read_header",
+    "stuiverhaag_write_header", "stuiverhaag_offer", "stuiverhaag_hand_out",
 };
 
 /* The numbers that a call may answer, a bit for each. */
 static const uint32_t numbers[CALLS] = {
     1u << 0 | 0x7ffcu,           /* 0 and 2 to 14 */
+    1u << 0 | 0x7ffcu,           /* the same */
     1u << 0 | 0x3f4u | 1u << 18, /* 0, 2, 4 to 9 and 18 */
     1u << 0 | 1u << 17,          /* 0 and 17 */
     1u << 0 | 0xcu | 1u << 17,   /* 0, 2, 3 and 17 */
     1u << 0 | 1u << 1 | 0xfff0u, /* 0, 1 and 4 to 15 */
     1u << 0 | 1u << 1 | 0x18000u /* 0, 1, 15 and 16 */
+};
+
+/* What an output is called, and how many bytes it must have. */
+static const struct {
+    const char *name;
+    size_t enough;
+} outputs[USES] = {
+    [HEADER_OUTPUT] = {"header", STUIVERHAAG_HEADER_LENGTH},
+    [TEXT_OUTPUT] = {"text", STUIVERHAAG_TEXT_LENGTH},
+    [URI_OUTPUT] = {"uri", STUIVERHAAG_URI_LENGTH},
 };
 
 /* Kinds of text, of which one may be several. */
@@ -65,7 +72,9 @@ const struct lengths just_enough = {STUIVERHAAG_HEADER_LENGTH, STUIVERHAAG_TEXT_
 static unsigned long counts[CALLS][NUMBERS];
 static unsigned long fields[CALLS][FIELDS];
 static unsigned long texts[CALLS][TEXT_KINDS];
-static unsigned long quiet;
+static unsigned long nothing_given[CALLS];
+static unsigned long short_by_one[CALLS][USES];
+static unsigned long short_of_all[CALLS][USES];
 static unsigned long decided_by_characters;
 static unsigned long decided_by_records;
 static unsigned long wide_calls;
@@ -79,17 +88,17 @@ struct slice slice_of(const struct bytes *bytes)
 
 struct slice written_header(void)
 {
-    return slice_of(&last.wrote[last.call == CONVERT ? 2 : 3]);
+    return slice_of(&last.wrote[last.call == GIVE_HEADER ? 2 : 3]);
 }
 
 struct slice written_text(void)
 {
-    return slice_of(&last.wrote[last.call == CONVERT ? 3 : 1]);
+    return slice_of(&last.wrote[last.call == GIVE_TEXT ? 2 : 1]);
 }
 
 struct slice written_uri(void)
 {
-    return slice_of(&last.wrote[last.call == CONVERT ? 4 : 2]);
+    return slice_of(&last.wrote[last.call == GIVE_TEXT ? 3 : 2]);
 }
 
 void print_calls(void)
@@ -160,14 +169,10 @@ static unsigned decided_by(const struct used *used)
         return is_header_length(length) ? STUIVERHAAG_DONE : STUIVERHAAG_NO_HEADER;
     case BOARD:
         return keeps_rules(used->slice.bytes, length) ? STUIVERHAAG_DONE : STUIVERHAAG_BOARD_RULES;
-    case HEADER_OUTPUT:
-        return length >= STUIVERHAAG_HEADER_LENGTH ? STUIVERHAAG_DONE : STUIVERHAAG_OUTPUT_SHORT;
-    case TEXT_OUTPUT:
-        return length >= STUIVERHAAG_TEXT_LENGTH ? STUIVERHAAG_DONE : STUIVERHAAG_OUTPUT_SHORT;
-    case URI_OUTPUT:
-        return length >= STUIVERHAAG_URI_LENGTH ? STUIVERHAAG_DONE : STUIVERHAAG_OUTPUT_SHORT;
-    default:
+    case PART:
         return STUIVERHAAG_DONE;
+    default:
+        return length >= outputs[used->use].enough ? STUIVERHAAG_DONE : STUIVERHAAG_OUTPUT_SHORT;
     }
 }
 
@@ -242,30 +247,30 @@ static void check_text(enum call call, uint64_t answer, const struct bytes *text
     must(is_printable(uri), "The uri has a byte that is none of 32 to 126.");
 }
 
-/* The parts of a conversion that answered 0. */
-static void check_converted(const struct answered *answered)
+/* A header and its carry, and nothing else; neither for a Cancel that activates nothing. */
+static void check_given_header(const struct answered *answered)
 {
     uint64_t answer = answered->answer;
-    size_t header_length = answered->wrote[2].length;
+    uint64_t length = answered->wrote[2].length;
+    uint64_t carry = stuiverhaag_carry(answer);
 
-    must(stuiverhaag_field(answer) == 0, "After 0 there is a field.");
-    if (header_length == 0) {
-        must(answer == 0, "A Cancel that activates nothing has more than 0.");
-        return;
-    }
-    must(is_header_length(header_length), "The header has a length that no header has.");
-    must(stuiverhaag_carry(answer) <= 1, "The carry is neither 0 nor 1.");
-    check_text(CONVERT, answer, &answered->wrote[3], &answered->wrote[4]);
+    must(answer == (length << 16 | carry << 28), "The answer has more than a header and a carry.");
+    must(length > 0 || carry == 0, "A Cancel that activates nothing has a carry.");
+    must(length == 0 || is_header_length(length), "The header has a length that no header has.");
+    must(carry <= 1, "The carry is neither 0 nor 1.");
 }
 
-/* The same of the Canadian mode, which has no header and no carry. */
-static void check_canadian(const struct answered *answered)
+/* A text and an audio, and nothing else; in the American mode neither for a Cancel that activates nothing. */
+static void check_given_text(const struct answered *answered, const struct bytes *text, const struct bytes *uri)
 {
     uint64_t answer = answered->answer;
 
     must(stuiverhaag_field(answer) == 0 && stuiverhaag_header_length(answer) == 0 && stuiverhaag_carry(answer) == 0,
          "The answer has more than a text and an audio.");
-    check_text(CANADIAN, answer, &answered->wrote[1], &answered->wrote[2]);
+    if (answered->call == GIVE_TEXT && text->length == 0)
+        must(answer == 0, "A Cancel that activates nothing has an audio.");
+    else
+        check_text(answered->call, answer, text, uri);
 }
 
 static void check_read(uint64_t answer, size_t length)
@@ -287,11 +292,14 @@ static void check_done(const struct asked *asked, const struct answered *answere
     uint64_t answer = answered->answer;
 
     switch (asked->call) {
-    case CONVERT:
-        check_converted(answered);
+    case GIVE_HEADER:
+        check_given_header(answered);
+        break;
+    case GIVE_TEXT:
+        check_given_text(answered, &answered->wrote[2], &answered->wrote[3]);
         break;
     case CANADIAN:
-        check_canadian(answered);
+        check_given_text(answered, &answered->wrote[1], &answered->wrote[2]);
         break;
     case READ_HEADER:
         check_read(answer, asked->used[0].slice.length);
@@ -354,10 +362,12 @@ static uint64_t make_call(const struct asked *asked, uint8_t *const *lent)
     const struct parts *parts = asked->parts;
 
     switch (asked->call) {
-    case CONVERT:
-        return stuiverhaag_convert(lent[0], used[0].slice.length, lent[1], used[1].slice.length,
-                                   lent[2], used[2].slice.length, lent[3], used[3].slice.length,
-                                   lent[4], used[4].slice.length);
+    case GIVE_HEADER:
+        return stuiverhaag_header(lent[0], used[0].slice.length, lent[1], used[1].slice.length,
+                                  lent[2], used[2].slice.length);
+    case GIVE_TEXT:
+        return stuiverhaag_text(lent[0], used[0].slice.length, lent[1], used[1].slice.length,
+                                lent[2], used[2].slice.length, lent[3], used[3].slice.length);
     case CANADIAN:
         return stuiverhaag_canadian(lent[0], used[0].slice.length, lent[1], used[1].slice.length,
                                     lent[2], used[2].slice.length);
@@ -375,6 +385,22 @@ static uint64_t make_call(const struct asked *asked, uint8_t *const *lent)
     }
 }
 
+/* Counts the output that a call was refused for, where no other was short and its length is at a border. */
+static void count_short(const struct asked *asked)
+{
+    const struct used *lacks = NULL;
+
+    for (size_t i = 0; i < asked->count; i++) {
+        if (asked->used[i].use <= BOARD || decided_by(&asked->used[i]) == STUIVERHAAG_DONE)
+            continue;
+        if (lacks != NULL)
+            return;
+        lacks = &asked->used[i];
+    }
+    short_by_one[asked->call][lacks->use] += lacks->slice.length + 1 == outputs[lacks->use].enough;
+    short_of_all[asked->call][lacks->use] += lacks->slice.length == 0;
+}
+
 static void count(const struct asked *asked, uint64_t answer)
 {
     bool has_wide = false;
@@ -382,8 +408,9 @@ static void count(const struct asked *asked, uint64_t answer)
     counts[asked->call][stuiverhaag_number(answer)]++;
     if (stuiverhaag_number(answer) == STUIVERHAAG_ELEMENT_BAD)
         fields[asked->call][stuiverhaag_field(answer)]++;
-    if (asked->call == CONVERT && answer == 0)
-        quiet++;
+    if (stuiverhaag_number(answer) == STUIVERHAAG_OUTPUT_SHORT)
+        count_short(asked);
+    nothing_given[asked->call] += answer == 0;
     if (stuiverhaag_number(answer) == STUIVERHAAG_BOARD_RULES)
         decided_by_records += is_board_length(asked->used[0].slice.length);
     for (size_t i = 0; i < asked->count; i++)
@@ -402,10 +429,11 @@ static void ask_once(const struct asked *asked, enum side side, unsigned lowest,
         lent[i] = lend(i, used->slice.bytes, used->slice.length, side, used->use < BOARD);
     }
     place.calls++;
+    answered->call = asked->call;
     answered->answer = make_call(asked, lent);
     check_number(asked->call, answered->answer);
-    count(asked, answered->answer);
     check_decided(lowest, stuiverhaag_number(answered->answer));
+    count(asked, answered->answer);
     for (size_t i = 0; i < asked->count; i++) {
         size_t length = written(&asked->used[i], answered->answer);
 
@@ -426,7 +454,6 @@ static uint64_t ask(const struct asked *asked)
     place.call = names[asked->call];
     if (printing)
         print_asked(asked);
-    last.call = asked->call;
     ask_once(asked, AT_END, lowest, &last);
     ask_once(asked, AT_START, lowest, &again);
     must(last.answer == again.answer, "The same call has another answer when it is made again.");
@@ -444,11 +471,18 @@ static struct used output(enum use use, size_t length)
     return (struct used){use, {NULL, length}};
 }
 
-uint64_t convert(struct slice message, struct slice station, struct lengths lengths)
+uint64_t give_header(struct slice message, struct slice station, struct lengths lengths)
 {
-    struct asked asked = {CONVERT, NULL, {{MESSAGE, message}, {STATION, station},
-                          output(HEADER_OUTPUT, lengths.header), output(TEXT_OUTPUT, lengths.text),
-                          output(URI_OUTPUT, lengths.uri)}, 5};
+    struct asked asked = {GIVE_HEADER, NULL, {{MESSAGE, message}, {STATION, station},
+                          output(HEADER_OUTPUT, lengths.header)}, 3};
+
+    return ask(&asked);
+}
+
+uint64_t give_text(struct slice message, struct slice station, struct lengths lengths)
+{
+    struct asked asked = {GIVE_TEXT, NULL, {{MESSAGE, message}, {STATION, station},
+                          output(TEXT_OUTPUT, lengths.text), output(URI_OUTPUT, lengths.uri)}, 4};
 
     return ask(&asked);
 }
@@ -525,45 +559,57 @@ static void print_count(const char *before, unsigned number, unsigned long count
     print_grouped(count);
 }
 
+bool print_numbers(const unsigned long *counts, uint32_t numbers)
+{
+    bool seen = true;
+
+    for (unsigned i = 0; i < NUMBERS; i++) {
+        if ((numbers >> i & 1) == 0)
+            continue;
+        print_count(", ", i, counts[i]);
+        seen = seen && counts[i] > 0;
+    }
+    putchar('\n');
+    return seen;
+}
+
+bool print_fields(const unsigned long *counts)
+{
+    bool seen = true;
+
+    printf(" after 7 field");
+    for (unsigned i = 1; i < FIELDS; i++) {
+        print_count(i == 1 ? " " : ", ", i, counts[i]);
+        seen = seen && counts[i] > 0;
+    }
+    putchar('\n');
+    return seen;
+}
+
 /* Whether each number of a call was answered. */
 static bool print_call(enum call call)
 {
     unsigned long all = 0;
-    bool seen = true;
 
     for (unsigned i = 0; i < NUMBERS; i++)
         all += counts[call][i];
     printf("%s: ", names[call]);
     print_grouped(all);
     printf(" calls");
-    for (unsigned i = 0; i < NUMBERS; i++) {
-        if ((numbers[call] >> i & 1) == 0)
-            continue;
-        print_count(", ", i, counts[call][i]);
-        seen = seen && counts[call][i] > 0;
-    }
-    putchar('\n');
-    return seen;
+    return print_numbers(counts[call], numbers[call]);
 }
 
 /* Whether after 7 each field was answered. */
-static bool print_fields(enum call call)
+static bool print_call_fields(enum call call)
 {
-    bool seen = true;
-
-    printf("%s: after 7 field", names[call]);
-    for (unsigned i = 1; i < FIELDS; i++) {
-        print_count(i == 1 ? " " : ", ", i, fields[call][i]);
-        seen = seen && fields[call][i] > 0;
-    }
-    putchar('\n');
-    return seen;
+    printf("%s:", names[call]);
+    return print_fields(fields[call]);
 }
 
-/* Whether each kind of text was answered. A header's sentence has no room for 7,200 bytes beside it. */
+/* Whether each kind of text was answered. Beside a header's sentence there is no room for 7,200 bytes. */
 static bool print_texts(enum call call)
 {
-    size_t kinds = call == CONVERT ? OF_MOST_BYTES : TEXT_KINDS;
+    size_t kinds = call == GIVE_TEXT ? OF_MOST_BYTES : TEXT_KINDS;
     bool seen = true;
 
     printf("%s: texts", names[call]);
@@ -576,20 +622,50 @@ static bool print_texts(enum call call)
     return seen;
 }
 
+/* Whether an output of a call was refused that lacks one byte, and one that has none. */
+static bool print_short(enum call call, enum use use)
+{
+    printf("%s: refused for its %s output alone, where it lacked one byte: ", names[call], outputs[use].name);
+    print_grouped(short_by_one[call][use]);
+    printf(", where it had none: ");
+    print_grouped(short_of_all[call][use]);
+    putchar('\n');
+    return short_by_one[call][use] > 0 && short_of_all[call][use] > 0;
+}
+
+static bool print_all_short(void)
+{
+    bool seen = print_short(GIVE_HEADER, HEADER_OUTPUT);
+
+    seen = print_short(GIVE_TEXT, TEXT_OUTPUT) && seen;
+    seen = print_short(GIVE_TEXT, URI_OUTPUT) && seen;
+    seen = print_short(CANADIAN, TEXT_OUTPUT) && seen;
+    seen = print_short(CANADIAN, URI_OUTPUT) && seen;
+    return print_short(WRITE_HEADER, HEADER_OUTPUT) && seen;
+}
+
+/* Whether a Cancel that activates nothing was answered 0. */
+static bool print_quiet(enum call call)
+{
+    printf("%s: after 0 ", names[call]);
+    return print_seen(nothing_given[call], "were Cancels that activate nothing");
+}
+
 bool print_counts(void)
 {
     bool seen = true;
 
-    for (enum call call = CONVERT; call < CALLS; call++)
+    for (enum call call = GIVE_HEADER; call < CALLS; call++)
         seen = print_call(call) && seen;
-    seen = print_fields(CONVERT) && seen;
-    seen = print_fields(CANADIAN) && seen;
-    seen = print_fields(OFFER) && seen;
-    seen = print_texts(CONVERT) && seen;
+    seen = print_call_fields(GIVE_HEADER) && seen;
+    seen = print_call_fields(GIVE_TEXT) && seen;
+    seen = print_call_fields(CANADIAN) && seen;
+    seen = print_call_fields(OFFER) && seen;
+    seen = print_texts(GIVE_TEXT) && seen;
     seen = print_texts(CANADIAN) && seen;
-    printf("%s: after 0 ", names[CONVERT]);
-    print_grouped(quiet);
-    printf(" were Cancels that activate nothing\n");
+    seen = print_quiet(GIVE_HEADER) && seen;
+    seen = print_quiet(GIVE_TEXT) && seen;
+    seen = print_all_short() && seen;
     print_grouped(decided_by_characters);
     printf(" of all calls were answered 5 for a message that is not UTF-8 or has characters that XML 1.0 has not\n");
     print_grouped(decided_by_records);
@@ -597,5 +673,5 @@ bool print_counts(void)
     print_grouped(wide_calls);
     printf(" of all calls had a slice of more than 4,294,967,295 bytes%s\n",
            lends_wide() ? "" : ", since this machine does not lend them");
-    return seen && quiet > 0 && decided_by_characters > 0 && decided_by_records > 0;
+    return seen && decided_by_characters > 0 && decided_by_records > 0;
 }

@@ -7,8 +7,12 @@
 #define CALLS_H
 
 #include "chance.h"
+#include "stuiverhaag.h"
 
-enum call { CONVERT, CANADIAN, READ_HEADER, WRITE_HEADER, OFFER, HAND_OUT, CALLS };
+#define NUMBERS (STUIVERHAAG_NO_TEXT + 1)
+#define FIELDS (STUIVERHAAG_FIELD_OTHER + 1)
+
+enum call { GIVE_HEADER, GIVE_TEXT, CANADIAN, READ_HEADER, WRITE_HEADER, OFFER, HAND_OUT, CALLS };
 
 struct slice {
     const uint8_t *bytes;
@@ -21,7 +25,7 @@ struct parts {
     struct slice event, locations, station;
 };
 
-/* How long the outputs of a conversion are lent. In the Canadian mode there is no header. */
+/* How long the outputs of a conversion are lent. Each call takes those that it writes. */
 struct lengths {
     size_t header, text, uri;
 };
@@ -32,7 +36,8 @@ extern const struct lengths just_enough;
 
 struct slice slice_of(const struct bytes *bytes);
 
-uint64_t convert(struct slice message, struct slice station, struct lengths lengths);
+uint64_t give_header(struct slice message, struct slice station, struct lengths lengths);
+uint64_t give_text(struct slice message, struct slice station, struct lengths lengths);
 uint64_t canadian(struct slice message, struct lengths lengths);
 uint64_t read_header(struct slice header);
 uint64_t write_header(const struct parts *parts, size_t out_length);
@@ -41,10 +46,10 @@ uint64_t write_header(const struct parts *parts, size_t out_length);
 uint64_t offer(struct bytes *board, struct slice message);
 uint64_t hand_out(struct bytes *board);
 
-/* What the last conversion or the last writing of a header wrote as the header. */
+/* What the last call wrote as the header, where it gives or writes one. */
 struct slice written_header(void);
 
-/* What the last conversion, in either mode, wrote as the text and as the uri. */
+/* What the last call wrote as the text and as the uri, where it gives these, in either mode. */
 struct slice written_text(void);
 struct slice written_uri(void);
 
@@ -55,7 +60,14 @@ void print_calls(void);
 void print_grouped(unsigned long number);
 bool print_seen(unsigned long count, const char *what);
 
-/* Prints how often each number and each kind of text was answered. Whether each that a call may answer was. */
+/* Prints how often each of the numbers that have a bit was answered, and each field. Whether each was. */
+bool print_numbers(const unsigned long *counts, uint32_t numbers);
+bool print_fields(const unsigned long *counts);
+
+/*
+ * Prints how often each number and each kind of text was answered, and each output was short. Whether each that a call
+ * may answer was, and each output.
+ */
 bool print_counts(void);
 
 #endif

@@ -1,7 +1,9 @@
 #include "cases.h"
 
+#include "activations.h"
 #include "alerts.h"
 #include "boards.h"
+#include "both.h"
 #include "calls.h"
 #include "handed.h"
 #include "lent.h"
@@ -185,13 +187,14 @@ static void check_read_again(const struct parts *parts)
     compared.read_again++;
 }
 
-/* An output's length: most often enough, once in a while short, by one byte or more. */
+/* An output's length: most often enough, once in a while short, by one byte, by some or by all. */
 static size_t draw_length(size_t enough)
 {
     static const size_t longer[] = {1, 7, 100, 4096, 65536};
+    const size_t short_ones[] = {enough - 1, below(enough), 0};
 
     if (once_in(50))
-        return once_in(2) ? enough - 1 : below(enough);
+        return PICK(short_ones);
     return once_in(4) ? enough + PICK(longer) : enough;
 }
 
@@ -218,20 +221,37 @@ static void case_write(void)
 
 /* ---- conversions */
 
-/* Converts a message. A header that it gives is read, and written again. */
+/* Gives the header of a message, which is read, and written again. */
+static uint64_t check_given_header(struct slice message, struct slice station, struct lengths lengths,
+                                   struct bytes *header)
+{
+    uint64_t answer = give_header(message, station, lengths);
+
+    header->length = 0;
+    put_bytes(header, written_header().bytes, written_header().length);
+    if (header->length == 0)
+        return answer;
+    if (memcmp(header->byte + header->length - STATION - 1, station.bytes, STATION) != 0)
+        broken("The header has another station.");
+    if (!check_header(slice_of(header)))
+        broken("The header of a message is refused.");
+    return answer;
+}
+
+static bool are_enough(struct lengths lengths)
+{
+    return lengths.header >= just_enough.header && lengths.text >= just_enough.text && lengths.uri >= just_enough.uri;
+}
+
+/* Converts a message by both calls. */
 static void check_convert(struct slice message, struct slice station, struct lengths lengths)
 {
-    uint64_t answer = convert(message, station, lengths);
-    struct slice written = written_header();
-    uint8_t header[STUIVERHAAG_HEADER_LENGTH];
+    static struct bytes header;
+    uint64_t of_header = check_given_header(message, station, lengths, &header);
+    uint64_t of_text = give_text(message, station, lengths);
 
-    if (stuiverhaag_number(answer) != STUIVERHAAG_DONE || written.length == 0)
-        return;
-    memcpy(header, written.bytes, written.length);
-    if (memcmp(header + written.length - STATION - 1, station.bytes, STATION) != 0)
-        broken("The header has another station.");
-    if (!check_header((struct slice){header, written.length}))
-        broken("The header of a conversion is refused.");
+    if (are_enough(lengths))
+        check_both(of_header, slice_of(&header), of_text, written_text());
 }
 
 /* As many bytes as a text has characters, or one more or less, are short too. */
@@ -280,15 +300,15 @@ static void check_modes(struct slice message)
     uint8_t uri[STUIVERHAAG_URI_LENGTH];
     uint64_t answer = canadian(message, just_enough);
     size_t length = written_uri().length;
-    uint64_t converted;
+    uint64_t american;
 
     memcpy(uri, written_uri().bytes, length);
-    converted = convert(message, bench_station, just_enough);
-    if ((refuses_in_both(answer) || refuses_in_both(converted)) && answer != converted)
+    american = give_text(message, bench_station, just_enough);
+    if ((refuses_in_both(answer) || refuses_in_both(american)) && answer != american)
         broken("One mode refuses a message otherwise than the other.");
-    if (stuiverhaag_text_length(answer) == 0 || stuiverhaag_text_length(converted) == 0)
+    if (stuiverhaag_text_length(answer) == 0 || stuiverhaag_text_length(american) == 0)
         return;
-    if (stuiverhaag_audio(answer) != stuiverhaag_audio(converted) || written_uri().length != length ||
+    if (stuiverhaag_audio(answer) != stuiverhaag_audio(american) || written_uri().length != length ||
         memcmp(written_uri().bytes, uri, length) != 0)
         broken("One mode chooses another audio than the other.");
     compared.modes += length > 0;
@@ -306,21 +326,21 @@ static void case_canadian(void)
 
 /* ---- boards */
 
-/* An offer answers of a message what a conversion does, and the board then holds a notice with the header of that. */
+/* An offer answers of a message what the header's call does, and the board then holds a notice with that header. */
 static void check_agreement(const struct bytes *board, struct slice message, uint64_t offered)
 {
-    uint64_t converted = convert(message, bench_station, just_enough);
+    uint64_t of_header = give_header(message, bench_station, just_enough);
     unsigned number = stuiverhaag_number(offered);
 
     if (number == STUIVERHAAG_BOARD_RULES)
         return;
-    if (stuiverhaag_number(converted) != (number == STUIVERHAAG_BOARD_FULL ? STUIVERHAAG_DONE : number) ||
-        stuiverhaag_field(converted) != stuiverhaag_field(offered))
-        broken("An offer and a conversion of one message answer different numbers.");
-    if (number != STUIVERHAAG_DONE || stuiverhaag_header_length(converted) == 0)
+    if (stuiverhaag_number(of_header) != (number == STUIVERHAAG_BOARD_FULL ? STUIVERHAAG_DONE : number) ||
+        stuiverhaag_field(of_header) != stuiverhaag_field(offered))
+        broken("An offer and the header's call answer a message with different numbers.");
+    if (number != STUIVERHAAG_DONE || stuiverhaag_header_length(of_header) == 0)
         return;
-    if (!holds_notice(board, written_header().bytes, stuiverhaag_header_length(converted) - STATION - 1))
-        broken("The board holds no notice with the header that the conversion gives.");
+    if (!holds_notice(board, written_header().bytes, stuiverhaag_header_length(of_header) - STATION - 1))
+        broken("The board holds no notice with the header of the message.");
     compared.notices++;
 }
 
@@ -474,7 +494,7 @@ static bool is_named(const struct taken *taken, const struct identity *identity)
 /* Makes a notice that has of a taken message its header and its sent alone. Whether it has a header. */
 static bool make_carried(uint8_t *notice, const struct taken *taken, size_t which)
 {
-    uint64_t answer = convert(slice_of(&taken->message[which]), bench_station, just_enough);
+    uint64_t answer = give_header(slice_of(&taken->message[which]), bench_station, just_enough);
 
     if (stuiverhaag_header_length(answer) == 0)
         return false;
@@ -638,8 +658,10 @@ void run_case(unsigned long number)
         wide_message();
     else if (kind < 18 && lends_wide())
         wide_header();
-    else if (kind < 4700)
+    else if (kind < 4400)
         case_convert();
+    else if (kind < 4700)
+        case_activation();
     else if (kind < 5300)
         case_character();
     else if (kind < 5500)
@@ -669,8 +691,8 @@ bool print_compared(void)
     puts("calls held beside each other:");
     all = print_seen(compared.written_again, "headers read, and written again to the same bytes") && all;
     all = print_seen(compared.read_again, "headers written, and read again as the same parts") && all;
-    all = print_seen(compared.modes, "uris of the Canadian mode, the same in a conversion") && all;
-    all = print_seen(compared.notices, "headers of conversions, on a board after an offer") && all;
+    all = print_seen(compared.modes, "uris of the Canadian mode, the same in the American one") && all;
+    all = print_seen(compared.notices, "headers of messages, on a board after an offer") && all;
     all = print_seen(compared.taken_again, "offers that added, made again to add nothing") && all;
     all = print_seen(compared.orders, "pairs of boards, the same messages in two orders") && all;
     all = print_seen(compared.due, "headers handed out with the years that the messages taken gave them") && all;

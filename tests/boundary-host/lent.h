@@ -13,7 +13,7 @@
 #include <stddef.h>
 #include <stdint.h>
 
-#define MOST_LENT 5
+#define MOST_LENT 4
 #define WIDE ((size_t)1 << 32)
 
 enum side { AT_START, AT_END };

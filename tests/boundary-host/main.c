@@ -6,6 +6,8 @@
  *     boundary before, boundary behind, boundary written
  *                                 touches on purpose what no call may touch; must end with 1
  */
+#include "activations.h"
+#include "both.h"
 #include "calls.h"
 #include "cases.h"
 #include "handed.h"
@@ -47,13 +49,16 @@ static void run(unsigned long calls)
     printf("all held: ");
     print_so_far();
     enough = print_counts();
+    enough = print_both() && enough;
     enough = print_compared() && enough;
     enough = print_handed() && enough;
     enough = print_years() && enough;
+    enough = print_activations() && enough;
     enough = print_spellings() && enough;
     if (!enough && calls >= ENOUGH) {
         fflush(stdout);
-        fprintf(stderr, "A number, field, kind of text, year or comparison was never seen: too little was tested.\n");
+        fprintf(stderr, "A number, field, kind of text, short output, year or comparison was never seen: "
+                "too little was tested.\n");
         exit(EXIT_FAILURE);
     }
 }

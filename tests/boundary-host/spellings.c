@@ -289,16 +289,24 @@ static void check_audio(uint64_t answer)
          "The uri is not that of the first resource that is suitable.");
 }
 
-static void check_convert(unsigned number, unsigned field)
+static void check_header(unsigned number, unsigned field)
 {
-    static struct bytes text;
-    uint64_t answer = convert(slice_of(&message.bytes), bench_station, just_enough);
+    uint64_t answer = give_header(slice_of(&message.bytes), bench_station, just_enough);
     const char *expected = is_hole("location name") ? short_header : header;
 
     if (!check_number(answer, number, field))
         return;
     must(equals(written_header(), expected, strlen(expected)), "The header is not that of the message.");
     must(stuiverhaag_carry(answer) == !is_hole("carry"), "The carry is not that of the message.");
+}
+
+static void check_american(unsigned number, unsigned field)
+{
+    static struct bytes text;
+    uint64_t answer = give_text(slice_of(&message.bytes), bench_station, just_enough);
+
+    if (!check_number(answer, number, field))
+        return;
     text.length = 0;
     put_american_text(&text);
     check_text(&text);
@@ -340,7 +348,8 @@ static void check_answers(unsigned number, unsigned field)
         number = STUIVERHAAG_MESSAGE_LENGTH_BAD;
         field = 0;
     }
-    check_convert(number, field);
+    check_header(number, field);
+    check_american(number, field);
     check_canadian(number, field);
     check_offer(number, field);
 }
