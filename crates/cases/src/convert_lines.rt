@@ -1,16 +1,15 @@
-// The case lines `convert`, `canadian` and `program`.
+// The case lines `header`, `text`, `canadian` and `program`.
 use crate::lines::LENT;
 use crate::lines::ROOM;
-use convert::Converted;
+use convert::Headed;
 use octets::Num;
 use outputs::TextAudio;
 
-// ---- the outputs
+// ---- what a line lends
 
-// The lengths of the outputs that a line lends.
+// The lengths of text and uri.
 struct Caps {
     ok: bool,
-    header: usize,
     text: usize,
     uri: usize,
 }
@@ -18,7 +17,6 @@ struct Caps {
 fn no_caps() -> Caps {
     Caps {
         ok: false,
-        header: 0,
         text: 0,
         uri: 0,
     }
@@ -35,27 +33,30 @@ fn two_caps(asked: &[u8], at: usize) -> Caps {
     };
     Caps {
         ok: true,
-        header: 0,
         text: text as usize,
         uri: uri as usize,
     }
 }
 
-// The length of the header before them.
-fn three_caps(asked: &[u8], at: usize) -> Caps {
-    let two = two_caps(asked, crate::lines::next_field(asked, at));
-    let Num::Value(header) = crate::lines::cap(crate::lines::field(asked, at)) else {
-        return no_caps();
-    };
-    Caps {
-        ok: two.ok,
-        header: header as usize,
-        text: two.text,
-        uri: two.uri,
+// How long message and station are.
+struct Lent {
+    ok: bool,
+    message: usize,
+    station: usize,
+}
+
+// Takes the message, and the station from `at`.
+fn take_lent(asked: &[u8], at: usize, message: &mut [u8], station: &mut [u8]) -> Lent {
+    let m = crate::lines::unhex(crate::lines::field(asked, 0), message);
+    let s = crate::lines::unhex(crate::lines::field(asked, at), station);
+    Lent {
+        ok: if m.ok { s.ok } else { false },
+        message: m.len,
+        station: s.len,
     }
 }
 
-// ---- convert MESSAGE STATION HEADERCAP TEXTCAP URICAP
+// ---- header MESSAGE STATION HEADERCAP
 
 fn put_carry(out: &mut [u8], at: usize, carry: bool) -> usize {
     if carry {
@@ -64,56 +65,45 @@ fn put_carry(out: &mut [u8], at: usize, carry: bool) -> usize {
     crate::lines::put(out, at, b" 0")
 }
 
-// What was converted, with what stands in the outputs.
-fn put_converted(out: &mut [u8], c: Converted, header: &[u8], text: &[u8], uri: &[u8]) -> usize {
+// What is answered, with what stands in the output.
+fn put_headed(out: &mut [u8], c: Headed, header: &[u8]) -> usize {
     let number = crate::lines::put_decimal(out, 0, c.number);
     let field = crate::lines::put_spaced(out, number, c.field);
     let first = crate::lines::put_bytes(out, field, crate::lines::front(header, c.header));
-    let audio = crate::lines::put_spaced(out, first, c.audio);
-    let second = crate::lines::put_bytes(out, audio, crate::lines::front(uri, c.uri));
-    let carry = put_carry(out, second, c.carry);
-    crate::lines::put_bytes(out, carry, crate::lines::front(text, c.text))
+    put_carry(out, first, c.carry)
 }
 
-fn convert_with(message: &[u8], station: &[u8], v: Caps, out: &mut [u8]) -> usize {
+fn header_with(message: &[u8], station: &[u8], cap: usize, out: &mut [u8]) -> usize {
     let mut header = [0u8; LENT];
-    let mut text = [0u8; LENT];
-    let mut uri = [0u8; LENT];
-    let header_lent = crate::lines::front_of(&mut header, v.header);
-    let text_lent = crate::lines::front_of(&mut text, v.text);
-    let uri_lent = crate::lines::front_of(&mut uri, v.uri);
-    let c = convert::convert(message, station, header_lent, text_lent, uri_lent);
-    put_converted(out, c, &header, &text, &uri)
+    let header_lent = crate::lines::front_of(&mut header, cap);
+    let c = convert::header(message, station, header_lent);
+    put_headed(out, c, &header)
 }
 
-pub(crate) fn convert(asked: &[u8], out: &mut [u8]) -> usize {
+pub(crate) fn header(asked: &[u8], out: &mut [u8]) -> usize {
     let station_at = crate::lines::next_field(asked, 0);
-    let caps_at = crate::lines::next_field(asked, station_at);
-    let v = three_caps(asked, caps_at);
-    if !v.ok {
+    let cap_at = crate::lines::next_field(asked, station_at);
+    let Num::Value(cap) = crate::lines::cap(crate::lines::last_field(asked, cap_at)) else {
         return crate::lines::put(out, 0, b"?");
-    }
+    };
     let mut message = [0u8; ROOM];
     let mut station = [0u8; ROOM];
-    let m = crate::lines::unhex(crate::lines::field(asked, 0), &mut message);
-    let s = crate::lines::unhex(crate::lines::field(asked, station_at), &mut station);
-    if !m.ok {
+    let lent = take_lent(asked, station_at, &mut message, &mut station);
+    if !lent.ok {
         return crate::lines::put(out, 0, b"?");
     }
-    if !s.ok {
-        return crate::lines::put(out, 0, b"?");
-    }
-    convert_with(
-        crate::lines::front(&message, m.len),
-        crate::lines::front(&station, s.len),
-        v,
+    header_with(
+        crate::lines::front(&message, lent.message),
+        crate::lines::front(&station, lent.station),
+        cap as usize,
         out,
     )
 }
 
-// ---- canadian MESSAGE TEXTCAP URICAP
+// ---- text MESSAGE STATION TEXTCAP URICAP
 
-fn put_canadian(out: &mut [u8], t: TextAudio, text: &[u8], uri: &[u8]) -> usize {
+// What is answered, with what stands in the outputs.
+fn put_worded(out: &mut [u8], t: TextAudio, text: &[u8], uri: &[u8]) -> usize {
     let number = crate::lines::put_decimal(out, 0, t.number);
     let field = crate::lines::put_spaced(out, number, t.field);
     let audio = crate::lines::put_spaced(out, field, t.audio);
@@ -121,13 +111,44 @@ fn put_canadian(out: &mut [u8], t: TextAudio, text: &[u8], uri: &[u8]) -> usize 
     crate::lines::put_bytes(out, first, crate::lines::front(text, t.text))
 }
 
+fn text_with(message: &[u8], station: &[u8], v: Caps, out: &mut [u8]) -> usize {
+    let mut text = [0u8; LENT];
+    let mut uri = [0u8; LENT];
+    let text_lent = crate::lines::front_of(&mut text, v.text);
+    let uri_lent = crate::lines::front_of(&mut uri, v.uri);
+    let t = convert::text(message, station, text_lent, uri_lent);
+    put_worded(out, t, &text, &uri)
+}
+
+pub(crate) fn text(asked: &[u8], out: &mut [u8]) -> usize {
+    let station_at = crate::lines::next_field(asked, 0);
+    let v = two_caps(asked, crate::lines::next_field(asked, station_at));
+    if !v.ok {
+        return crate::lines::put(out, 0, b"?");
+    }
+    let mut message = [0u8; ROOM];
+    let mut station = [0u8; ROOM];
+    let lent = take_lent(asked, station_at, &mut message, &mut station);
+    if !lent.ok {
+        return crate::lines::put(out, 0, b"?");
+    }
+    text_with(
+        crate::lines::front(&message, lent.message),
+        crate::lines::front(&station, lent.station),
+        v,
+        out,
+    )
+}
+
+// ---- canadian MESSAGE TEXTCAP URICAP
+
 fn canadian_with(message: &[u8], v: Caps, out: &mut [u8]) -> usize {
     let mut text = [0u8; LENT];
     let mut uri = [0u8; LENT];
     let text_lent = crate::lines::front_of(&mut text, v.text);
     let uri_lent = crate::lines::front_of(&mut uri, v.uri);
     let t = canadian::convert(message, text_lent, uri_lent);
-    put_canadian(out, t, &text, &uri)
+    put_worded(out, t, &text, &uri)
 }
 
 pub(crate) fn canadian(asked: &[u8], out: &mut [u8]) -> usize {

@@ -28,8 +28,11 @@ fn answer(line: &[u8], out: &mut [u8]) -> usize {
     if octets::equal(call, b"write") {
         return header_lines::write(asked, out);
     }
-    if octets::equal(call, b"convert") {
-        return convert_lines::convert(asked, out);
+    if octets::equal(call, b"header") {
+        return convert_lines::header(asked, out);
+    }
+    if octets::equal(call, b"text") {
+        return convert_lines::text(asked, out);
     }
     if octets::equal(call, b"canadian") {
         return convert_lines::canadian(asked, out);

@@ -1,79 +1,78 @@
--- The outcome of a conversion, by what was found: a message s, a station, and outputs of h, t and u bytes.
---     untouched      where nothing is given, each output is as it was
---     rooms          how long outputs are that are long enough
-use Prim.Native.Nat.{ℕ, _≤_}
-use mathlib.Core.Path.{_≡_, sym, ap, _∙_}
-use mathlib.Core.Bool.{true, false}
+-- The outcome of a call, by what was found in a message s for a station. A is what the call gives.
+--     short, long               of outputs too short, and of others
+--     refused, quiet, alert     of others, by what the message is
+--     ready                     what an alert has that it may be written
+--     untouched                 where no header is given, the output is as it was
+use Prim.Native.Nat.{ℕ}
+use mathlib.Core.Path.{_≡_, refl, sym, ap, _∙_}
+use mathlib.Core.Bool.{Bool, true, false}
 use mathlib.Core.List.{List}
-use borrow.Author.Tests.{ne-eqb, leb-true}
+use native.Mathlib.Omega.{arith}
+use borrow.Author.Tests.{ne-eqb}
 use lib.Seq.{sets}
-use lib.Dec.{leb}
-use Rattle.octets.proofs.Tests.{and-left, and-right}
-use Rattle.parts.specs.Parts.{stationOk}
+use Rattle.parts.specs.Parts.{bodyOk, stationOk}
 use Rattle.message.specs.WorkingMessage.{messageSays, infoIn}
 use Rattle.leaves.proofs.Fits.{audio-fits}
 use Rattle.judgement.specs.WorkingJudged.{judgedOf}
 use Rattle.judgement.specs.declared.Judged.{Judged}
 use Rattle.judgement.proofs.Bodies.{body-ok, message-kept}
-use Rattle.outputs.proofs.Fits.{room-of, uri-fits}
-use Rattle.convert.specs.Convert.{nothing, Outcome, answerOf}
-use Rattle.convert.specs.WorkingConvert.{alertGiven, refusedWith, Ready, roomy, outcomeOf, convertOf}
-use Rattle.convert.specs.declared.Converted.{Converted}
+use Rattle.outputs.specs.Outputs.{alone}
+use Rattle.outputs.specs.WorkingOutputs.{uriIn, UriFits}
+use Rattle.outputs.proofs.Fits.{uri-fits}
+use Rattle.convert.specs.Convert.{noHeader, HeaderOutcome, headerAnswerOf}
+use Rattle.convert.specs.WorkingConvert.{judgedFor, outcomeOf, callOf}
+use Rattle.convert.specs.declared.Headed.{Headed}
 
--- ---- nothing given
+module _ {A : Type 0} (none : A) (given : Judged → A) where
+  module _ (roomy : Bool) (s station : List ℕ) where
+    pub short : roomy ≡ false → callOf none given roomy s station ≡ alone none 2 0
+    unfolding callOf
+    short e = rw e
 
-pub record Alone (o : Outcome) (r : Converted) (header text uri : List ℕ) : Type 0 where
-  pub told : r ≡ answerOf o
-  pub header-stays : header ≡ sets header 0 (o .given .header)
-  pub text-stays : text ≡ sets text 0 (o .given .text)
-  pub uri-stays : uri ≡ sets uri 0 (o .given .uri)
+    pub long : roomy ≡ true → (j : Judged) → j ≡ judgedFor s station → callOf none given roomy s station ≡ outcomeOf none given j
+    unfolding callOf
+    long e j is = rw (e, is)
 
-pub untouched : (o : Outcome) (r : Converted) (header text uri : List ℕ) (n f : ℕ) → o ≡ record { number = n; field = f; given = nothing } →
-    r ≡ answerOf (record { number = n; field = f; given = nothing }) → Alone o r header text uri
-untouched o r header text uri n f e h = record {
-  told = h ∙ ap answerOf (sym e);
-  header-stays = rw e;
-  text-stays = rw e;
-  uri-stays = rw e;
-}
+  module _ (j : Judged) where
+    pub refused : (j .number ≡ 0 → ⊥) → outcomeOf none given j ≡ alone none (j .number) (j .field)
+    unfolding outcomeOf
+    refused e = rw (ne-eqb (j .number) 0 e)
 
--- ---- by the numbers
+    pub quiet : j .number ≡ 0 → j .quiet ≡ true → outcomeOf none given j ≡ alone none 0 (j .field)
+    unfolding outcomeOf
+    quiet e q = rw (e, q)
 
-pub rooms : (h t u : ℕ) → roomy h t u ≡ true → (252 ≤ h) × (7200 ≤ t) × (1024 ≤ u)
-unfolding roomy
-rooms h t u r = let o = room-of t u (and-right (leb 252 h) _ r) in (leb-true 252 h (and-left (leb 252 h) _ r), o .0, o .1)
+    pub alert : j .number ≡ 0 → j .quiet ≡ false → outcomeOf none given j ≡ record { number = 0; field = j .field; given = given j }
+    unfolding outcomeOf
+    alert e q = rw (e, q)
 
-module _ (s station : List ℕ) (h t u : ℕ) where
-  pub short : roomy h t u ≡ false → convertOf s station h t u ≡ refusedWith 2
-  unfolding convertOf
-  short e = rw e
+-- ---- the answer and the header's output at exit, as the outcome has them
 
-  module _ (room : roomy h t u ≡ true) where
-    pub unnamed : stationOk station ≡ false → convertOf s station h t u ≡ refusedWith 3
-    unfolding convertOf
-    unnamed e = rw (room, e)
+abbrev pub HeaderAnswers : HeaderOutcome → Headed → List ℕ → List ℕ → Type 0
+HeaderAnswers o r out x = (r ≡ headerAnswerOf o) × (x ≡ sets out 0 (o .given .header))
 
-    module _ (named : stationOk station ≡ true) (j : Judged) (judged : j ≡ judgedOf s) where
-      outcome : convertOf s station h t u ≡ outcomeOf s station j
-      unfolding convertOf
-      outcome = rw (room, named, judged)
+pub untouched : (o : HeaderOutcome) (r : Headed) (out : List ℕ) (n f : ℕ) → o ≡ alone noHeader n f → r ≡ headerAnswerOf (alone noHeader n f) → HeaderAnswers o r out out
+untouched o r out n f e h = (h ∙ ap headerAnswerOf (sym e), rw e)
 
-      pub refused : (j .number ≡ 0 → ⊥) → convertOf s station h t u ≡ record { number = j .number; field = j .field; given = nothing }
-      unfolding outcomeOf
-      refused e = outcome ∙ rw (ne-eqb (j .number) 0 e)
+-- ---- what an alert has: the station is one, the parts are a header's, and the uri fits
 
-      pub quiet : j .number ≡ 0 → j .quiet ≡ true → convertOf s station h t u ≡ record { number = 0; field = j .field; given = nothing }
-      unfolding outcomeOf
-      quiet e q = outcome ∙ rw (e, q)
+pub record Ready (s station : List ℕ) (j : Judged) : Type 0 where
+  pub named : stationOk station ≡ true
+  pub judged : j ≡ judgedOf s
+  pub body : bodyOk (j .body) ≡ true
+  pub fits : UriFits (uriIn s (infoIn (j .message) .audio))
 
-      pub alert : j .number ≡ 0 → j .quiet ≡ false → convertOf s station h t u ≡ record { number = 0; field = j .field; given = alertGiven s station j }
-      unfolding outcomeOf
-      alert e q = outcome ∙ rw (e, q)
-
-      pub ready : j .number ≡ 0 → j .quiet ≡ false → Ready s station j h t u
-      ready e q = rw judged (record {
-        room = room;
-        named = named;
-        body = body-ok s (rw judged at e) (rw judged at q);
-        fits = rw (message-kept s (messageSays s)) (uri-fits s (infoIn (messageSays s) .audio) (audio-fits s));
-      })
+pub ready : (s station : List ℕ) (j : Judged) → j ≡ judgedFor s station → j .number ≡ 0 → j .quiet ≡ false → Ready s station j
+unfolding judgedFor
+ready s station j is e q = go (stationOk station) refl
+  where
+    go : (b : Bool) → stationOk station ≡ b → Ready s station j
+    go true b =
+        let judged : j ≡ judgedOf s = rw b at is in
+        rw judged (record {
+          named = b;
+          judged = refl;
+          body = body-ok s (rw judged at e) (rw judged at q);
+          fits = rw (message-kept s (messageSays s)) (uri-fits s (infoIn (messageSays s) .audio) (audio-fits s));
+        })
+    go false b = let three : _≡_ {A = ℕ} 3 0 = rw (is, b) at e in absurd (omega (arith, three))

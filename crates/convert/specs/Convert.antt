@@ -1,39 +1,28 @@
--- The conversion: everything that it answers and writes for a message, a station and outputs of given lengths.
+-- The conversion, in two calls: one for header and must-carry, one for text and audio (Outputs of crate outputs). Everything that the first answers and writes.
 use Prim.Native.Nat.{ℕ}
 use mathlib.Core.Bool.{Bool, false}
 use mathlib.Core.List.{List, []}
 use lib.ListN.{length}
-use Rattle.convert.specs.declared.Converted.{Converted}
+use Rattle.outputs.specs.Outputs.{Outcome}
+use Rattle.convert.specs.declared.Headed.{Headed}
 
--- ---- what an alert gives
-
-pub record Given : Type 0 where
+-- the header and must-carry
+pub record HeaderGiven : Type 0 where
   pub header : List ℕ
-  pub text : List ℕ
-  pub audio : ℕ
-  pub uri : List ℕ
   pub carry : Bool
 
--- no header, text or audio
-abbrev pub nothing : Given
-nothing = record { header = []; text = []; audio = 0; uri = []; carry = false }
+-- no header
+abbrev pub noHeader : HeaderGiven
+noHeader = record { header = []; carry = false }
 
--- ---- the call
+abbrev pub HeaderOutcome : Type 0
+HeaderOutcome = Outcome HeaderGiven
 
--- the number, the field, and what is written from the start of each output; bytes past it stay, so that where nothing is written nothing is touched
-pub record Outcome : Type 0 where
-  pub number : ℕ
-  pub field : ℕ
-  pub given : Given
-
--- what the call returns: lengths in place of bytes
-unfoldable pub answerOf : Outcome → Converted
-answerOf o = record {
+-- what the call returns: a length in place of bytes
+unfoldable pub headerAnswerOf : HeaderOutcome → Headed
+headerAnswerOf o = record {
   number = o .number;
   field = o .field;
   header = length (o .given .header);
-  audio = o .given .audio;
-  uri = length (o .given .uri);
   carry = o .given .carry;
-  text = length (o .given .text);
 }

@@ -1,5 +1,7 @@
-// The conversion of a message: its header, its text and its audio choice, written into lent outputs.
+// The conversion of a message, in two calls: one for its header and must-carry, one for its text and audio choice, written into lent outputs. Both judge the
+// station and the message.
 use judgement::Judged;
+use outputs::TextAudio;
 use parts::Body;
 use parts::Parts;
 ghost use mathlib.Core.Path.{_≡_};
@@ -9,42 +11,41 @@ ghost use lib.ListN.{length};
 ghost use lib.Seq.{sets};
 ghost use Rattle.characters.specs.Utf8.{utf8};
 ghost use Rattle.parts.specs.Parts.{bodyOk, stationOk};
-ghost use Rattle.convert.specs.WorkingConvert.{Ready, stationHeader, textIn, alertGiven, roomy, convertOf};
-ghost use Rattle.convert.specs.Convert.{nothing, answerOf};
+ghost use Rattle.message.specs.WorkingMessage.{infoIn};
+ghost use Rattle.outputs.specs.Outputs.{alone, textAnswerOf};
+ghost use Rattle.outputs.specs.WorkingOutputs.{uriIn, UriFits};
+ghost use Rattle.convert.specs.Convert.{noHeader, headerAnswerOf};
+ghost use Rattle.convert.specs.WorkingConvert.{stationHeader, textIn, headerBy, textBy, judgedFor, headerCall, textCall};
 
-// What a conversion answers: the number and the field; how long header, uri and text are; audio (0 none, 1 mp3, 2 wav, 3 stream); must-carry.
-pub struct Converted {
+// What the call for header and must-carry answers: the number and the field; how long the header is; must-carry.
+pub struct Headed {
     pub number: u32,
     pub field: u32,
     pub header: usize,
-    pub audio: u32,
-    pub uri: usize,
     pub carry: bool,
-    pub text: usize,
 }
 
-// Whether the outputs have the lengths that a conversion asks for.
-fn is_roomy(header: usize, text: usize, uri: usize) -> bool
-    ensures { λ r. ⌜ r ≡ roomy header text uri ⌝ }
+// What both calls ask of the station and of the message: numbers 3 to 14.
+fn judge(message: &[u8], station: &[u8]) -> Judged
+    ensures { λ r. ⌜ r ≡ judgedFor (now (message .entry)) (now (station .entry)) ⌝ }
 {
-    if header < 252 {
-        return false;
+    if !parts::station_ok(station) {
+        return judgement::refused(message.len(), 3);
     }
-    outputs::is_roomy(text, uri)
+    judgement::judge(message)
 }
+
+// ---- header and must-carry
 
 // An answer with nothing written: a refusal, or a quiet Cancel.
-fn answer_alone(number: u32, field: u32) -> Converted
-    ensures { λ r. ⌜ r ≡ answerOf (record { number = number; field = field; given = nothing }) ⌝ }
+fn no_header(number: u32, field: u32) -> Headed
+    ensures { λ r. ⌜ r ≡ headerAnswerOf (alone noHeader number field) ⌝ }
 {
-    Converted {
+    Headed {
         number: number,
         field: field,
         header: 0,
-        audio: 0,
-        uri: 0,
         carry: false,
-        text: 0,
     }
 }
 
@@ -65,6 +66,50 @@ fn put_header(station: &[u8], b: Body, out: &mut [u8]) -> usize
     );
     35 + 7 * b.count
 }
+
+// Writes the header of an alert, and says whether it must be carried.
+fn write_header(s: &[u8], station: &[u8], j: Judged, out: &mut [u8]) -> Headed
+    requires { ⌜ stationOk (now station) ≡ true ⌝ }
+    requires { ⌜ bodyOk (j .body) ≡ true ⌝ }
+    requires { ⌜ 252 ≤ length (now out) ⌝ }
+    ensures { λ r. ⌜ r ≡ headerAnswerOf (record { number = 0; field = j .field; given = headerBy (now (s .entry)) (now (station .entry)) j }) ⌝ }
+    ensures { λ _. ⌜ now (out .exit) ≡ sets (now (out .entry)) 0 (headerBy (now (s .entry)) (now (station .entry)) j .header) ⌝ }
+{
+    let body = j.body;
+    let m = j.message;
+    let a = m.alert;
+    let i = a.info;
+    let parameters = i.parameters;
+    let carry = parameters.leaf[reads::MUST_CARRY];
+    let carried = values::equal(s, carry.at, b"True");
+    let headed = put_header(station, body, out);
+    Headed {
+        number: 0,
+        field: j.field,
+        header: headed,
+        carry: carried,
+    }
+}
+
+// Gives the header and must-carry of a message: numbers 2 to 14, and the header from the start of `out`, or nothing.
+pub fn header(message: &[u8], station: &[u8], out: &mut [u8]) -> Headed
+    ensures { λ r. ⌜ r ≡ headerAnswerOf (headerCall (now (message .entry)) (now (station .entry)) (length (now (out .entry)))) ⌝ }
+    ensures { λ _. ⌜ now (out .exit) ≡ sets (now (out .entry)) 0 (headerCall (now (message .entry)) (now (station .entry)) (length (now (out .entry))) .given .header) ⌝ }
+{
+    if out.len() < 252 {
+        return no_header(2, 0);
+    }
+    let j = judge(message, station);
+    if j.number != 0 {
+        return no_header(j.number, j.field);
+    }
+    if j.quiet {
+        return no_header(0, j.field);
+    }
+    write_header(message, station, j, out)
+}
+
+// ---- text and audio
 
 fn put_text(s: &[u8], j: Judged, out: &mut [u8]) -> usize
     requires { ⌜ 7200 ≤ length (now out) ⌝ }
@@ -92,68 +137,46 @@ fn put_text(s: &[u8], j: Judged, out: &mut [u8]) -> usize
     )
 }
 
-// Writes all that an alert gives.
-fn write(
-    s: &[u8],
-    station: &[u8],
-    j: Judged,
-    header: &mut [u8],
-    text: &mut [u8],
-    uri: &mut [u8],
-) -> Converted
-    requires { ⌜ Ready (now s) (now station) j (length (now header)) (length (now text)) (length (now uri)) ⌝ }
-    ensures { λ r. ⌜ r ≡ answerOf (record { number = 0; field = j .field; given = alertGiven (now (s .entry)) (now (station .entry)) j }) ⌝ }
-    ensures { λ _. ⌜ now (header .exit) ≡ sets (now (header .entry)) 0 (alertGiven (now (s .entry)) (now (station .entry)) j .header) ⌝ }
-    ensures { λ _. ⌜ now (text .exit) ≡ sets (now (text .entry)) 0 (alertGiven (now (s .entry)) (now (station .entry)) j .text) ⌝ }
-    ensures { λ _. ⌜ now (uri .exit) ≡ sets (now (uri .entry)) 0 (alertGiven (now (s .entry)) (now (station .entry)) j .uri) ⌝ }
+// Writes the text of an alert and the uri of its audio choice.
+fn write_text(s: &[u8], j: Judged, text: &mut [u8], uri: &mut [u8]) -> TextAudio
+    requires { ⌜ bodyOk (j .body) ≡ true ⌝ }
+    requires { ⌜ UriFits (uriIn (now s) (infoIn (j .message) .audio)) ⌝ }
+    requires { ⌜ 7200 ≤ length (now text) ⌝ }
+    requires { ⌜ 1024 ≤ length (now uri) ⌝ }
+    ensures { λ r. ⌜ r ≡ textAnswerOf (record { number = 0; field = j .field; given = textBy (now (s .entry)) j }) ⌝ }
+    ensures { λ _. ⌜ now (text .exit) ≡ sets (now (text .entry)) 0 (textBy (now (s .entry)) j .text) ⌝ }
+    ensures { λ _. ⌜ now (uri .exit) ≡ sets (now (uri .entry)) 0 (textBy (now (s .entry)) j .uri) ⌝ }
 {
-    let body = j.body;
     let m = j.message;
     let a = m.alert;
     let i = a.info;
     let audio = i.audio;
-    let parameters = i.parameters;
-    let carry = parameters.leaf[reads::MUST_CARRY];
-    let carried = values::equal(s, carry.at, b"True");
-    let headed = put_header(station, body, header);
     let worded = put_text(s, j, text);
     let linked = outputs::put_uri(s, audio, uri);
-    Converted {
+    TextAudio {
         number: 0,
         field: j.field,
-        header: headed,
         audio: audio.number,
         uri: linked,
-        carry: carried,
         text: worded,
     }
 }
 
-// Converts a message: numbers 2 to 14, and the header, the text and the uri from the start of each output, or nothing.
-pub fn convert(
-    message: &[u8],
-    station: &[u8],
-    header: &mut [u8],
-    text: &mut [u8],
-    uri: &mut [u8],
-) -> Converted
-    ensures { λ r. ⌜ r ≡ answerOf (convertOf (now (message .entry)) (now (station .entry)) (length (now (header .entry))) (length (now (text .entry))) (length (now (uri .entry)))) ⌝ }
-    ensures { λ _. ⌜ now (header .exit) ≡ sets (now (header .entry)) 0 (convertOf (now (message .entry)) (now (station .entry)) (length (now (header .entry))) (length (now (text .entry))) (length (now (uri .entry))) .given .header) ⌝ }
-    ensures { λ _. ⌜ now (text .exit) ≡ sets (now (text .entry)) 0 (convertOf (now (message .entry)) (now (station .entry)) (length (now (header .entry))) (length (now (text .entry))) (length (now (uri .entry))) .given .text) ⌝ }
-    ensures { λ _. ⌜ now (uri .exit) ≡ sets (now (uri .entry)) 0 (convertOf (now (message .entry)) (now (station .entry)) (length (now (header .entry))) (length (now (text .entry))) (length (now (uri .entry))) .given .uri) ⌝ }
+// Gives the text and the audio choice of a message: numbers 2 to 14, and the text and the uri from the start of each output, or nothing.
+pub fn text(message: &[u8], station: &[u8], text: &mut [u8], uri: &mut [u8]) -> TextAudio
+    ensures { λ r. ⌜ r ≡ textAnswerOf (textCall (now (message .entry)) (now (station .entry)) (length (now (text .entry))) (length (now (uri .entry)))) ⌝ }
+    ensures { λ _. ⌜ now (text .exit) ≡ sets (now (text .entry)) 0 (textCall (now (message .entry)) (now (station .entry)) (length (now (text .entry))) (length (now (uri .entry))) .given .text) ⌝ }
+    ensures { λ _. ⌜ now (uri .exit) ≡ sets (now (uri .entry)) 0 (textCall (now (message .entry)) (now (station .entry)) (length (now (text .entry))) (length (now (uri .entry))) .given .uri) ⌝ }
 {
-    if !is_roomy(header.len(), text.len(), uri.len()) {
-        return answer_alone(2, 0);
+    if !outputs::is_roomy(text.len(), uri.len()) {
+        return outputs::answer_alone(2, 0);
     }
-    if !parts::station_ok(station) {
-        return answer_alone(3, 0);
-    }
-    let j = judgement::judge(message);
+    let j = judge(message, station);
     if j.number != 0 {
-        return answer_alone(j.number, j.field);
+        return outputs::answer_alone(j.number, j.field);
     }
     if j.quiet {
-        return answer_alone(0, j.field);
+        return outputs::answer_alone(0, j.field);
     }
-    write(message, station, j, header, text, uri)
+    write_text(message, j, text, uri)
 }

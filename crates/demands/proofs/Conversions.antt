@@ -1,8 +1,12 @@
--- Demand 1 of a conversion, and of a header read and written: its number is the lowest of its own that applies, and a refusal gives and touches nothing.
---     convert-numbered, convert-field, convert-refused
+-- Demand 1 of both calls of a conversion, and of a header read and written: its number is the lowest of its own that applies, and a refusal gives and touches
+-- nothing.
+--     call-numbered                                   of either call
+--     header-numbered, header-field, header-refused
+--     text-numbered, text-field, text-refused
 --     read-numbered, read-refused, write-numbered, write-refused
 use Prim.Native.Nat.{ℕ}
-use mathlib.Core.Path.{_≡_, refl, _∙_}
+use mathlib.Core.Path.{_≡_, refl, ap, _∙_}
+use mathlib.Core.Bool.{Bool}
 use mathlib.Core.List.{List, []}
 use borrow.Author.Tests.{ne-eqb}
 use lib.Dec.{leb}
@@ -14,43 +18,67 @@ use Rattle.parts.specs.declared.Parts.{Parts}
 use Rattle.header.specs.declared.Read.{Read}
 use Rattle.header.specs.Header.{headerForm, readOf, writeNumber, writeOf, writeBytes}
 use Rattle.judgement.specs.WorkingJudged.{judgedOf}
+use Rattle.judgement.specs.declared.Judged.{Judged}
+use Rattle.outputs.specs.Outputs.{Outcome, noText}
 use Rattle.outputs.specs.WorkingOutputs.{roomyText}
-use Rattle.convert.specs.Convert.{nothing, Outcome}
-use Rattle.convert.specs.WorkingConvert.{refusedWith, roomy, outcomeOf, convertOf}
+use Rattle.convert.specs.Convert.{noHeader}
+use Rattle.convert.specs.WorkingConvert.{headerBy, textBy, judgedFor, outcomeOf, callOf, headerCall, textCall}
+use Rattle.convert.proofs.Answers.{call-holds, call-refused}
 use Rattle.demands.specs.Calls.{library}
-use Rattle.demands.specs.Numbers.{Numbered, lowestIn, fieldBeside, isStation, takenRows, conversionRows, readRows, writeRows}
+use Rattle.demands.specs.Numbers.{Numbered, lowestIn, fieldBeside, isStation, takenRows, callRows, headingRows, textingRows, readRows, writeRows}
 use Rattle.demands.proofs.Rows.{held, at-pick, numbered}
 use Rattle.demands.proofs.Messages.{judged-number, judged-field}
 
--- ---- a conversion
+-- ---- a call of a conversion, whose outputs are long enough or not. A is what it gives
 
-module _ (s station : List ℕ) (h t u : ℕ) where
-  -- what holds where an output is short, where the station is none, and of what the message gives
-  pub convert-holds : (P : Outcome → Type 0) → P (refusedWith 2) → P (refusedWith 3) → P (outcomeOf s station (judgedOf s)) → P (convertOf s station h t u)
-  unfolding convertOf
-  convert-holds P two three judged =
-      either-way P (roomy h t u) _ _ (λ _. either-way P (parts.stationOk station) _ _ (λ _. judged) (λ _. three)) (λ _. two)
+module _ {A : Type 0} (none : A) (given : Judged → A) (long : Bool) (s station : List ℕ) where
+  abbrev outcome : Outcome A
+  outcome = callOf none given long s station
 
-  convert-number : convertOf s station h t u .number ≡ lowestIn (conversionRows s station h t u)
-  unfolding convertOf outcomeOf roomy roomyText every parts.stationOk parts.isStationByte
-  convert-number =
-      let f : Outcome → ℕ = λ (o : Outcome). o .number in
-      at-pick f (roomy h t u) _ _ ∙ held (roomy h t u) 2 _ (drop 1 (conversionRows s station h t u))
-      (at-pick f (isStation station) _ _ ∙ held (isStation station) 3 _ (takenRows s) (judged-number s))
+  call-number : outcome .number ≡ lowestIn (callRows long s station)
+  unfolding callOf judgedFor outcomeOf every parts.stationOk parts.isStationByte
+  call-number =
+      at-pick (λ (o : Outcome A). o .number) long _ _ ∙ held long 2 _ (drop 1 (callRows long s station))
+      (at-pick (λ (j : Judged). j .number) (isStation station) _ _ ∙ held (isStation station) 3 _ (takenRows s) (judged-number s))
 
-  pub convert-numbered : Numbered (library .conversion s station h t u .number) (conversionRows s station h t u)
+  pub call-numbered : Numbered (outcome .number) (callRows long s station)
   unfolding every
-  convert-numbered = numbered _ (conversionRows s station h t u) refl convert-number
+  call-numbered = numbered _ (callRows long s station) refl call-number
 
-  pub convert-field : library .conversion s station h t u .field ≡ fieldBeside (library .conversion s station h t u .number) s
-  unfolding outcomeOf
-  convert-field = convert-holds (λ (o : Outcome). o .field ≡ fieldBeside (o .number) s) refl refl (judged-field s)
+  call-field : outcome .field ≡ fieldBeside (outcome .number) s
+  call-field =
+      call-holds none given long s station (λ (o : Outcome A). o .field ≡ fieldBeside (o .number) s) refl refl (judged-field s) at-zero (λ z r. at-zero z)
+    where
+      at-zero : judgedOf s .number ≡ 0 → judgedOf s .field ≡ fieldBeside 0 s
+      at-zero z = judged-field s ∙ ap (λ (n : ℕ). fieldBeside n s) z
 
-  pub convert-refused : (library .conversion s station h t u .number ≡ 0 → ⊥) → library .conversion s station h t u .given ≡ nothing
-  unfolding outcomeOf
-  convert-refused =
-      convert-holds (λ (o : Outcome). (o .number ≡ 0 → ⊥) → o .given ≡ nothing) (λ n. refl) (λ n. refl)
-      (λ n. rw (ne-eqb (judgedOf s .number) 0 n))
+  given-none : (outcome .number ≡ 0 → ⊥) → outcome .given ≡ none
+  given-none n = ap (λ (o : Outcome A). o .given) (call-refused none given long s station n)
+
+module _ (s station : List ℕ) where
+  pub header-numbered : (h : ℕ) → Numbered (library .heading s station h .number) (headingRows s station h)
+  unfolding headerCall
+  header-numbered h = call-numbered noHeader (headerBy s station) (leb 252 h) s station
+
+  pub header-field : (h : ℕ) → library .heading s station h .field ≡ fieldBeside (library .heading s station h .number) s
+  unfolding headerCall
+  header-field h = call-field noHeader (headerBy s station) (leb 252 h) s station
+
+  pub header-refused : (h : ℕ) → (library .heading s station h .number ≡ 0 → ⊥) → library .heading s station h .given ≡ noHeader
+  unfolding headerCall
+  header-refused h = given-none noHeader (headerBy s station) (leb 252 h) s station
+
+  pub text-numbered : (t u : ℕ) → Numbered (library .texting s station t u .number) (textingRows s station t u)
+  unfolding textCall roomyText
+  text-numbered t u = call-numbered noText (textBy s) (roomyText t u) s station
+
+  pub text-field : (t u : ℕ) → library .texting s station t u .field ≡ fieldBeside (library .texting s station t u .number) s
+  unfolding textCall
+  text-field t u = call-field noText (textBy s) (roomyText t u) s station
+
+  pub text-refused : (t u : ℕ) → (library .texting s station t u .number ≡ 0 → ⊥) → library .texting s station t u .given ≡ noText
+  unfolding textCall
+  text-refused t u = given-none noText (textBy s) (roomyText t u) s station
 
 -- ---- a header
 

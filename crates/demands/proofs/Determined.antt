@@ -1,8 +1,8 @@
 -- Each promise determines its result: any two results that a function's contract allows for the same arguments are equal, and so is every lent byte and row at
 -- exit. The contract is the function's own, as the toolchain reads it: Learnt says what a caller learns of lifetimes κs, arguments a, a result r and the
 -- arguments at exit x. One theorem for each function that a user may call, of which these have lent outputs:
---     convert-determined, canadian-determined, offer-determined, hand-out-determined, list-determined, write-header-determined, program-determined
---     host-convert-determined, host-canadian-determined, host-offer-determined, host-hand-out-determined, host-write-determined    for a host in C
+--     header-determined, text-determined, canadian-determined, offer-determined, hand-out-determined, list-determined, write-header-determined, program-determined
+--     host-header-determined, host-text-determined, host-canadian-determined, host-offer-determined, host-hand-out-determined, host-write-determined    for a host in C
 use Prim.Native.Nat.{ℕ}
 use mathlib.Core.Path.{_≡_, sym, ap₂, _∙_}
 use mathlib.Core.Bool.{Bool}
@@ -32,8 +32,9 @@ use Rattle.judgement.specs.declared.Judged.{Judged}
 use Rattle.judgement.proofs.judge.Reads as judge
 use Rattle.outputs.specs.declared.TextAudio.{TextAudio}
 use Rattle.canadian.proofs.convert.Reads as canadian
-use Rattle.convert.specs.declared.Converted.{Converted}
-use Rattle.convert.proofs.convert.Reads as convert
+use Rattle.convert.specs.declared.Headed.{Headed}
+use Rattle.convert.proofs.header.Reads as header
+use Rattle.convert.proofs.text.Reads as text
 use Rattle.records.proofs.is_record.Reads as is-record
 use Rattle.records.proofs.are_zeros.Reads as are-zeros
 use Rattle.ledger.specs.declared.Row.{Row}
@@ -48,8 +49,9 @@ use Rattle.board.proofs.list_rows.Reads as list-rows
 use Rattle.offers.specs.declared.Offered.{Offered}
 use Rattle.offers.proofs.offer.Reads as offer
 use Rattle.report.proofs.program.Reads as program
+use Rattle.stuiverhaag.proofs.stuiverhaag_header.Reads as host-header
+use Rattle.stuiverhaag.proofs.stuiverhaag_text.Reads as host-text
 use Rattle.stuiverhaag.proofs.stuiverhaag_canadian.Reads as host-canadian
-use Rattle.stuiverhaag.proofs.stuiverhaag_convert.Reads as host-convert
 use Rattle.stuiverhaag.proofs.stuiverhaag_read_header.Reads as host-read
 use Rattle.stuiverhaag.proofs.stuiverhaag_write_header.Reads as host-write
 use Rattle.stuiverhaag.proofs.stuiverhaag_offer.Reads as host-offer
@@ -91,10 +93,14 @@ read-determined κs a x x′ r r′ p q = one p q
 pub judge-determined : (κs : Lifetimes 1) (a x x′ : Slices 1) (r r′ : Judged) → judge.Learnt κs a r x → judge.Learnt κs a r′ x′ → r ≡ r′
 judge-determined κs a x x′ r r′ p q = one p q
 
--- header, text and uri are the third, fourth and fifth argument
-pub convert-determined : (κs : Lifetimes 5) (a x x′ : Slices 5) (r r′ : Converted) → convert.Learnt κs a r x → convert.Learnt κs a r′ x′ →
-    (r ≡ r′) × ((now (x .1 .1 .0) ≡ now (x′ .1 .1 .0)) × ((now (x .1 .1 .1 .0) ≡ now (x′ .1 .1 .1 .0)) × (now (x .1 .1 .1 .1 .0) ≡ now (x′ .1 .1 .1 .1 .0))))
-convert-determined κs a x x′ r r′ p q = (one (p .0) (q .0), (one (p .1 .0) (q .1 .0), (one (p .1 .1 .0) (q .1 .1 .0), one (p .1 .1 .1) (q .1 .1 .1))))
+-- header, or text and uri, stand behind message and station
+pub header-determined : (κs : Lifetimes 3) (a x x′ : Slices 3) (r r′ : Headed) →
+    header.Learnt κs a r x → header.Learnt κs a r′ x′ → (r ≡ r′) × (now (x .1 .1 .0) ≡ now (x′ .1 .1 .0))
+header-determined κs a x x′ r r′ p q = (one (p .0) (q .0), one (p .1) (q .1))
+
+pub text-determined : (κs : Lifetimes 4) (a x x′ : Slices 4) (r r′ : TextAudio) →
+    text.Learnt κs a r x → text.Learnt κs a r′ x′ → (r ≡ r′) × ((now (x .1 .1 .0) ≡ now (x′ .1 .1 .0)) × (now (x .1 .1 .1 .0) ≡ now (x′ .1 .1 .1 .0)))
+text-determined κs a x x′ r r′ p q = (one (p .0) (q .0), (one (p .1 .0) (q .1 .0), one (p .1 .1) (q .1 .1)))
 
 pub canadian-determined : (κs : Lifetimes 3) (a x x′ : Slices 3) (r r′ : TextAudio) → canadian.Learnt κs a r x → canadian.Learnt κs a r′ x′ →
     (r ≡ r′) × ((now (x .1 .0) ≡ now (x′ .1 .0)) × (now (x .1 .1 .0) ≡ now (x′ .1 .1 .0)))
@@ -146,9 +152,13 @@ program-determined κs a x x′ r r′ p q = (one (p .0) (q .0), one (p .1) (q .
 
 -- ---- the calls for a host in C
 
-pub host-convert-determined : (κs : Lifetimes 5) (a x x′ : Slices 5) (r r′ : ℕ) → host-convert.Learnt κs a r x → host-convert.Learnt κs a r′ x′ →
-    (r ≡ r′) × ((now (x .1 .1 .0) ≡ now (x′ .1 .1 .0)) × ((now (x .1 .1 .1 .0) ≡ now (x′ .1 .1 .1 .0)) × (now (x .1 .1 .1 .1 .0) ≡ now (x′ .1 .1 .1 .1 .0))))
-host-convert-determined κs a x x′ r r′ p q = (one (p .0) (q .0), (one (p .1 .0) (q .1 .0), (one (p .1 .1 .0) (q .1 .1 .0), one (p .1 .1 .1) (q .1 .1 .1))))
+pub host-header-determined : (κs : Lifetimes 3) (a x x′ : Slices 3) (r r′ : ℕ) →
+    host-header.Learnt κs a r x → host-header.Learnt κs a r′ x′ → (r ≡ r′) × (now (x .1 .1 .0) ≡ now (x′ .1 .1 .0))
+host-header-determined κs a x x′ r r′ p q = (one (p .0) (q .0), one (p .1) (q .1))
+
+pub host-text-determined : (κs : Lifetimes 4) (a x x′ : Slices 4) (r r′ : ℕ) →
+    host-text.Learnt κs a r x → host-text.Learnt κs a r′ x′ → (r ≡ r′) × ((now (x .1 .1 .0) ≡ now (x′ .1 .1 .0)) × (now (x .1 .1 .1 .0) ≡ now (x′ .1 .1 .1 .0)))
+host-text-determined κs a x x′ r r′ p q = (one (p .0) (q .0), (one (p .1 .0) (q .1 .0), one (p .1 .1) (q .1 .1)))
 
 pub host-canadian-determined : (κs : Lifetimes 3) (a x x′ : Slices 3) (r r′ : ℕ) → host-canadian.Learnt κs a r x → host-canadian.Learnt κs a r′ x′ →
     (r ≡ r′) × ((now (x .1 .0) ≡ now (x′ .1 .0)) × (now (x .1 .1 .0) ≡ now (x′ .1 .1 .0)))

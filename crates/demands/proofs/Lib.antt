@@ -15,6 +15,7 @@ pub mod BoardRules
 pub mod Outcomes
 pub mod Demand1Boards
 pub mod Demand1
+pub mod BothAlike
 pub mod Demand3Calls
 pub mod OfferRuns
 pub mod Demand3

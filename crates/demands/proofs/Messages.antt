@@ -2,7 +2,7 @@
 --     judged-number, judged-field     the lowest of 4 to 14 that applies, and the field beside 7
 --     quiet-is, body-is               of one that answers 0: whether it is quiet, and the header that it gives
 --     key-is, names-are, records-are  its own key, the keys that it names, and the records that it leaves
---     whole-is                        its header, text, audio and must-carry for a station
+--     header-is, text-is              its header and must-carry for a station, and its text and audio
 use native.Mathlib.Omega.{arith}
 use Prim.Native.Nat.{ℕ, zero, suc}
 use Prim.Native.String.{String}
@@ -25,12 +25,12 @@ use Rattle.judgement.specs.declared.Judged.{Judged}
 use Rattle.judgement.proofs.Answers.{alerted-holds, judged-holds, passed}
 use Rattle.judgement.proofs.Bodies.{alerting, alert-body, message-kept}
 use Rattle.outputs.specs.WorkingOutputs.{uriIn}
-use Rattle.convert.specs.WorkingConvert.{textIn, alertGiven}
+use Rattle.convert.specs.WorkingConvert.{textIn, headerBy, textBy}
 use Rattle.records.specs.Record.{notice, withdrawal}
 use Rattle.offers.specs.WorkingRecords.{ownIn, zeroFilledHeader, namedBy, alertBy, recordsOf}
 use Rattle.told.specs.Values.{isNone, valueOf, isSix}
 use Rattle.told.proofs.Leaves.{leaf-value}
-use Rattle.demands.specs.Message.{prefix, alert, locations, isQuiet, headerBody, wholeOf}
+use Rattle.demands.specs.Message.{prefix, alert, locations, isQuiet, headerBody, wholeHeader, wholeText}
 use Rattle.demands.specs.Board.{ownKey, ownHeader, namedKeys, messageRecords}
 use Rattle.demands.specs.Numbers.{NumberRow, row, lowestIn, fieldBeside, messageRows, headerRows, takenRows}
 use Rattle.demands.proofs.Rows.{held, at-pick, lowest-append}
@@ -176,10 +176,14 @@ module _ (s : List ℕ) (zero : judgedOf s .number ≡ 0) where
   unfolding recordsOf alertBy
   records-are = rw (eq-eqb (judgedOf s .number) 0 zero) (ap₂ (λ (ns ws : List (List ℕ)). ns ++ map withdrawal ws) notice-is names-are)
 
-  -- ---- what it gives for a station
+  -- ---- what it gives in each call
 
-  pub whole-is : (station : List ℕ) → isQuiet s ≡ false → alertGiven s station (judgedOf s) ≡ wholeOf s station
-  unfolding alertGiven wholeOf textIn uriIn judged
-  whole-is station loud =
+  pub header-is : (station : List ℕ) → isQuiet s ≡ false → headerBy s station (judgedOf s) ≡ wholeHeader s station
+  unfolding headerBy wholeHeader judged
+  header-is station loud = rw (body-is loud, kept, told s sound .parameters .each 2 (omega arith) .value)
+
+  pub text-is : isQuiet s ≡ false → textBy s (judgedOf s) ≡ wholeText s
+  unfolding textBy wholeText textIn uriIn judged
+  text-is loud =
       let t = told s sound in
-      rw (body-is loud, kept, t .parameters .each 1 (omega arith) .value, t .senderName, t .description, t .instruction, t .audio .uri, t .audio .number, t .parameters .each 2 (omega arith) .value)
+      rw (body-is loud, kept, t .parameters .each 1 (omega arith) .value, t .senderName, t .description, t .instruction, t .audio .uri, t .audio .number)

@@ -12,7 +12,7 @@ use Rattle.board.specs.WorkingRules.{boardOk, encode}
 use Rattle.canadian.specs.Canadian.{canadianText}
 use Rattle.offers.specs.WorkingOffer as offers-offer
 use Rattle.offers.specs.WorkingRecords.{alertBy, zeroFilledHeader, namedBy, ownIn, recordsOf}
-use Rattle.demands.specs.Message.{headerBody, wholeOf, wholeInCanada}
+use Rattle.demands.specs.Message.{headerBody, wholeHeader, wholeText, wholeInCanada}
 use Rattle.demands.specs.Numbers.{noneApplies}
 use Rattle.worked.proofs.Opens.{converting}
 
@@ -37,7 +37,7 @@ unfolding offers-offer.messageOffer alertBy zeroFilledHeader namedBy ownIn recor
 offers-opens = tt
 
 demands-opens : Unit {0}
-unfolding headerBody wholeOf wholeInCanada canadianText noneApplies
+unfolding headerBody wholeHeader wholeText wholeInCanada canadianText noneApplies
 demands-opens = tt
 
 unfoldable pub computing : Unit {0}

@@ -1,5 +1,5 @@
 -- Whole messages and boards, computed: what document 01 prints for its sample message, and what the stand-ins are tried on.
---     sample-taken, sample-whole, sample-printed    the sample is refused by nothing, and gives what is printed under "Figures to hold"
+--     sample-taken, sample-header, sample-text, sample-printed    the sample is refused by nothing, and gives what is printed under "Figures to hold"
 --     first-offer, second-offer                     its offer adds one record, and the same offer again adds none
 --     both-offered, both-due                        after offers of two messages both headers are due, in byte order
 use Prim.Native.Nat.{ℕ}
@@ -11,16 +11,17 @@ use Rattle.octets.specs.Text.{bytes}
 use Rattle.board.specs.Rules.{boardOf}
 use Rattle.report.specs.Program.{printed}
 use Rattle.demands.specs.Calls.{library}
-use Rattle.demands.specs.Message.{isQuiet, wholeOf, wholeInCanada}
+use Rattle.demands.specs.Message.{isQuiet, wholeHeader, wholeText, wholeInCanada}
 use Rattle.demands.specs.Board.{dueHeaders}
-use Rattle.demands.specs.Numbers.{noneApplies, conversionRows, canadianRows, isBoard, emptiesIn}
+use Rattle.demands.specs.Numbers.{lowestIn, noneApplies, callRows, canadianRows, isBoard, emptiesIn}
 use Rattle.demands.specs.Runs.{afterOffers, handOuts}
 use Rattle.demands.specs.StandIns.{sample, other, bench, sampleDated, noneHeld, oneHeld, twoDue, nothingAfterFirst}
 use Rattle.demands.proofs.Opens.{computing}
 
 -- ---- conversions
 
-pub sample-taken : noneApplies (conversionRows sample bench 252 7200 1024) ≡ true
+-- outputs that are long enough
+pub sample-taken : noneApplies (callRows true sample bench) ≡ true
 unfolding computing
 sample-taken = refl
 
@@ -33,18 +34,16 @@ sampleText =
     bytes "Civil authorities issued Civil Emergency Message for locations 024031, valid from 18:00 UTC on day 095 for 00 hours 45 minutes."
     ++ bytes " Message from County Bench. Water main broken. Boil water."
 
-pub sample-whole : wholeOf sample bench ≡ record {
-  header = bytes "ZCZC-CIV-CEM-024031+0045-0951800-BENCH/01-";
-  text = sampleText;
-  audio = 0;
-  uri = [];
-  carry = false;
-}
+pub sample-header : wholeHeader sample bench ≡ record { header = bytes "ZCZC-CIV-CEM-024031+0045-0951800-BENCH/01-"; carry = false }
 unfolding computing
-sample-whole = refl
+sample-header = refl
+
+pub sample-text : wholeText sample ≡ record { text = sampleText; audio = 0; uri = [] }
+unfolding computing
+sample-text = refl
 
 -- the program's lines
-pub sample-printed : printed (library .conversion sample bench 252 7200 1024) ≡
+pub sample-printed : printed (record { headed = library .heading sample bench 252; worded = library .texting sample bench 7200 1024 }) ≡
     bytes "number 0 field 0\nheader ZCZC-CIV-CEM-024031+0045-0951800-BENCH/01-\naudio none\ncarry no\ntext " ++ (sampleText ++ bytes "\n")
 unfolding computing
 sample-printed = refl
@@ -58,15 +57,25 @@ pub sample-in-canada : wholeInCanada sample ≡ record { text = bytes "Water mai
 unfolding computing
 sample-in-canada = refl
 
-pub other-taken : noneApplies (conversionRows other bench 252 7200 1024) ≡ true
+pub other-taken : noneApplies (callRows true other bench) ≡ true
 unfolding computing
 other-taken = refl
+
+-- with a station that is none: 3
+pub sample-unnamed : lowestIn (callRows true sample (bytes "BENCH-01")) ≡ 3
+unfolding computing lowestIn
+sample-unnamed = refl
+
+-- what the stand-in answers that does not judge it
+pub sample-anywhere : library .texting sample bench 7200 1024 .number ≡ 0
+unfolding computing
+sample-anywhere = refl
 
 pub other-loud : isQuiet other ≡ false
 unfolding computing
 other-loud = refl
 
-pub other-header : wholeOf other bench .header ≡ bytes "ZCZC-CIV-TOR-024031+0045-0951800-BENCH/01-"
+pub other-header : wholeHeader other bench .header ≡ bytes "ZCZC-CIV-TOR-024031+0045-0951800-BENCH/01-"
 unfolding computing
 other-header = refl
 

@@ -1,8 +1,8 @@
 -- What a function's contract allows, answer and lent bytes at exit, is the library's call that the demands speak of. Learnt is the contract as the toolchain
 -- reads it: what a caller learns of lifetimes κs, arguments a, a result r and the arguments at exit x.
---     convert-is-conversion, canadian-is-canadian, offer-is-offering, hand-out-is-handing, list-is-listing, read-is-reading, write-is-writing    for callers in Rattle
---     host-convert-is-conversion, host-canadian-is-canadian, host-offer-is-offering, host-hand-out-is-handing, host-read-is-reading, host-write-is-writing    for a host in C
---     program-is-conversion    the program's lines
+--     header-is-heading, text-is-texting, canadian-is-canadian, offer-is-offering, hand-out-is-handing, list-is-listing, read-is-reading, write-is-writing    for callers in Rattle
+--     host-header-is-heading, host-text-is-texting, host-canadian-is-canadian, host-offer-is-offering, host-hand-out-is-handing, host-read-is-reading, host-write-is-writing    for a host in C
+--     program-is-both    the program's lines
 use Prim.Native.Nat.{ℕ, _≤_}
 use mathlib.Core.Path.{_≡_}
 use mathlib.Core.List.{List, []}
@@ -29,9 +29,10 @@ use Rattle.header.proofs.write_asked.Reads as write-asked
 use Rattle.outputs.specs.Outputs.{TextOutcome, textAnswerOf}
 use Rattle.outputs.specs.declared.TextAudio.{TextAudio}
 use Rattle.canadian.proofs.convert.Reads as canadian
-use Rattle.convert.specs.Convert.{Outcome, answerOf}
-use Rattle.convert.specs.declared.Converted.{Converted}
-use Rattle.convert.proofs.convert.Reads as convert
+use Rattle.convert.specs.Convert.{HeaderOutcome, headerAnswerOf}
+use Rattle.convert.specs.declared.Headed.{Headed}
+use Rattle.convert.proofs.header.Reads as header
+use Rattle.convert.proofs.text.Reads as text
 use Rattle.board.specs.Calls.{Handing, Listing}
 use Rattle.board.specs.WorkingCalls.{blanks}
 use Rattle.board.specs.declared.Handed.{Handed}
@@ -46,9 +47,10 @@ use Rattle.offers.specs.declared.Offered.{Offered}
 use Rattle.offers.proofs.offer.Reads as offer
 use Rattle.report.specs.Program.{printed, programOf}
 use Rattle.report.proofs.program.Reads as program
-use Rattle.stuiverhaag.specs.Packed.{packedText, packedConverted, packedRead, packedWritten, packedOffered, packedHanded}
+use Rattle.stuiverhaag.specs.Packed.{packedHeaded, packedText, packedRead, packedWritten, packedOffered, packedHanded}
+use Rattle.stuiverhaag.proofs.stuiverhaag_header.Reads as host-header
+use Rattle.stuiverhaag.proofs.stuiverhaag_text.Reads as host-text
 use Rattle.stuiverhaag.proofs.stuiverhaag_canadian.Reads as host-canadian
-use Rattle.stuiverhaag.proofs.stuiverhaag_convert.Reads as host-convert
 use Rattle.stuiverhaag.proofs.stuiverhaag_read_header.Reads as host-read
 use Rattle.stuiverhaag.proofs.stuiverhaag_write_header.Reads as host-write
 use Rattle.stuiverhaag.proofs.stuiverhaag_offer.Reads as host-offer
@@ -58,24 +60,33 @@ use Rattle.demands.proofs.Arguments.{Lifetimes, Lent, Slices, Rows, Nam
 
 -- ---- conversions
 
--- of a message, for a station, into a header, a text and a uri
-abbrev converted : Slices 5 → Outcome
-converted a =
-    library .conversion (now (a .0)) (now (a .1 .0)) (length (now (a .1 .1 .0))) (length (now (a .1 .1 .1 .0))) (length (now (a .1 .1 .1 .1 .0)))
+-- of a message, for a station, into a header
+abbrev headed : Slices 3 → HeaderOutcome
+headed a = library .heading (now (a .0)) (now (a .1 .0)) (length (now (a .1 .1 .0)))
 
--- each output at exit begins with what is given, and is as it was behind it
-abbrev Filled : Slices 5 → Slices 5 → Type 0
-Filled a x =
-    (now (x .1 .1 .0) ≡ sets (now (a .1 .1 .0)) 0 (converted a .given .header))
-    × ((now (x .1 .1 .1 .0) ≡ sets (now (a .1 .1 .1 .0)) 0 (converted a .given .text))
-    × (now (x .1 .1 .1 .1 .0) ≡ sets (now (a .1 .1 .1 .1 .0)) 0 (converted a .given .uri)))
+-- the output at exit begins with what is given, and is as it was behind it
+abbrev FilledHeader : Slices 3 → Slices 3 → Type 0
+FilledHeader a x = now (x .1 .1 .0) ≡ sets (now (a .1 .1 .0)) 0 (headed a .given .header)
 
-pub convert-is-conversion : (κs : Lifetimes 5) (a x : Slices 5) (r : Converted) → convert.Learnt κs a r x → (r ≡ answerOf (converted a)) × Filled a x
-convert-is-conversion κs a x r p = p
+pub header-is-heading : (κs : Lifetimes 3) (a x : Slices 3) (r : Headed) → header.Learnt κs a r x → (r ≡ headerAnswerOf (headed a)) × FilledHeader a x
+header-is-heading κs a x r p = p
 
-pub host-convert-is-conversion : (κs : Lifetimes 5) (a x : Slices 5) (r : ℕ) →
-    host-convert.Learnt κs a r x → (r ≡ packedConverted (answerOf (converted a))) × Filled a x
-host-convert-is-conversion κs a x r p = p
+pub host-header-is-heading : (κs : Lifetimes 3) (a x : Slices 3) (r : ℕ) → host-header.Learnt κs a r x → (r ≡ packedHeaded (headerAnswerOf (headed a))) × FilledHeader a x
+host-header-is-heading κs a x r p = p
+
+-- of a message, for a station, into a text and a uri
+abbrev worded : Slices 4 → TextOutcome
+worded a = library .texting (now (a .0)) (now (a .1 .0)) (length (now (a .1 .1 .0))) (length (now (a .1 .1 .1 .0)))
+
+abbrev FilledText : Slices 4 → Slices 4 → Type 0
+FilledText a x =
+    (now (x .1 .1 .0) ≡ sets (now (a .1 .1 .0)) 0 (worded a .given .text)) × (now (x .1 .1 .1 .0) ≡ sets (now (a .1 .1 .1 .0)) 0 (worded a .given .uri))
+
+pub text-is-texting : (κs : Lifetimes 4) (a x : Slices 4) (r : TextAudio) → text.Learnt κs a r x → (r ≡ textAnswerOf (worded a)) × FilledText a x
+text-is-texting κs a x r p = p
+
+pub host-text-is-texting : (κs : Lifetimes 4) (a x : Slices 4) (r : ℕ) → host-text.Learnt κs a r x → (r ≡ packedText (textAnswerOf (worded a))) × FilledText a x
+host-text-is-texting κs a x r p = p
 
 -- of a message in the Canadian mode, into a text and a uri
 abbrev inCanada : Slices 3 → TextOutcome
@@ -93,12 +104,14 @@ host-canadian-is-canadian κs a x r p = p
 
 -- the lines that the program prints: none where less room is lent than 8,704 bytes
 abbrev linesOf : Slices 2 → List ℕ
-linesOf a = pick (ltb (length (now (a .1 .0))) 8704) [] (printed (library .conversion (now (a .0)) (bytes "BENCH/01") 252 7200 1024))
+linesOf a =
+    pick (ltb (length (now (a .1 .0))) 8704) []
+    (printed (record { headed = library .heading (now (a .0)) (bytes "BENCH/01") 252; worded = library .texting (now (a .0)) (bytes "BENCH/01") 7200 1024 }))
 
-pub program-is-conversion : (κs : Lifetimes 2) (a x : Slices 2) (r : ℕ) →
+pub program-is-both : (κs : Lifetimes 2) (a x : Slices 2) (r : ℕ) →
     program.Learnt κs a r x → (r ≡ length (linesOf a)) × (now (x .1 .0) ≡ sets (now (a .1 .0)) 0 (linesOf a))
 unfolding programOf
-program-is-conversion κs a x r p = p
+program-is-both κs a x r p = p
 
 -- ---- headers
 

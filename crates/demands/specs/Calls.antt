@@ -7,8 +7,8 @@ use Rattle.header.specs.declared.Written.{Written}
 use Rattle.header.specs.Header.{readOf, writeOf, writeBytes}
 use Rattle.outputs.specs.Outputs.{TextOutcome}
 use Rattle.canadian.specs.WorkingCanadian.{canadianOf}
-use Rattle.convert.specs.Convert.{Outcome}
-use Rattle.convert.specs.WorkingConvert.{convertOf}
+use Rattle.convert.specs.Convert.{HeaderOutcome}
+use Rattle.convert.specs.WorkingConvert.{headerCall, textCall}
 use Rattle.board.specs.Calls.{Handing, Listing}
 use Rattle.board.specs.WorkingCalls.{handOf, listOf}
 use Rattle.offers.specs.Offer.{MessageOffering}
@@ -20,8 +20,10 @@ pub record Writing : Type 0 where
   pub bytes : List ℕ
 
 pub record Calls : Type 0 where
-  -- converting the message s for a station, into outputs of these lengths
-  pub conversion : (s station : List ℕ) (header text uri : ℕ) → Outcome
+  -- header and must-carry of the message s for a station, into an output of this length
+  pub heading : (s station : List ℕ) (header : ℕ) → HeaderOutcome
+  -- text and audio of the message s for a station, into outputs of these lengths
+  pub texting : (s station : List ℕ) (text uri : ℕ) → TextOutcome
   -- the Canadian mode of the message s, into outputs of these lengths
   pub canadian : (s : List ℕ) (text uri : ℕ) → TextOutcome
   -- offering the message s to the board b
@@ -38,7 +40,8 @@ pub record Calls : Type 0 where
 -- the calls of the library, each as its function's promise gives it
 abbrev pub library : Calls
 library = record {
-  conversion = convertOf;
+  heading = headerCall;
+  texting = textCall;
   canadian = canadianOf;
   offering = messageOffer;
   handing = handOf;

@@ -8,23 +8,26 @@ use lib.ListN.{length, take, drop}
 use Rattle.parts.specs.Parts.{noBody, noStation}
 use Rattle.parts.specs.declared.Parts.{Parts}
 use Rattle.outputs.specs.Outputs.{noText}
-use Rattle.convert.specs.Convert.{nothing}
+use Rattle.convert.specs.Convert.{noHeader}
 use Rattle.records.specs.Record.{pad, aired}
 use Rattle.ledger.specs.Sorted.{In, insert, insertAll}
 use Rattle.board.specs.Rules.{boardOf}
 use Rattle.told.specs.Values.{firstValue}
 use Rattle.demands.specs.Calls.{Calls}
-use Rattle.demands.specs.Message.{isQuiet, headerParts, Spelt, wholeOf, wholeInCanada}
+use Rattle.demands.specs.Message.{isQuiet, headerParts, Spelt, wholeHeader, wholeText, wholeInCanada}
 use Rattle.demands.specs.Board.{ownHeader, messageRecords, dueHeaders, makesDue, firstIndex, rowOf}
-use Rattle.demands.specs.Numbers.{Numbered, noneApplies, fieldBeside, conversionRows, canadianRows, isBoard, emptiesIn, offerRows, handOutRows, listRows, readRows, writeRows}
+use Rattle.demands.specs.Numbers.{Numbered, noneApplies, fieldBeside, headingRows, textingRows, canadianRows, isBoard, emptiesIn, offerRows, handOutRows, listRows, readRows, writeRows}
 use Rattle.demands.specs.Runs.{Empty, afterOffers, NoneFull, Takes, CarriedBy, handOuts, BoardCall, handedOut, Once}
 
 -- Bad input gets the refusal number that document 01 gives, no call is refused where none of its numbers applies, and a refused call changes no lent byte and no
 -- lent row: it returns its number, and beside 7 its field, zeros elsewhere, and writes nothing.
 pub record Demand1 (c : Calls) : Type 0 where
-  pub convert-numbered : (s station : List ℕ) (h t u : ℕ) → Numbered (c .conversion s station h t u .number) (conversionRows s station h t u)
-  pub convert-field : (s station : List ℕ) (h t u : ℕ) → c .conversion s station h t u .field ≡ fieldBeside (c .conversion s station h t u .number) s
-  pub convert-refused : (s station : List ℕ) (h t u : ℕ) → (c .conversion s station h t u .number ≡ 0 → ⊥) → c .conversion s station h t u .given ≡ nothing
+  pub header-numbered : (s station : List ℕ) (h : ℕ) → Numbered (c .heading s station h .number) (headingRows s station h)
+  pub header-field : (s station : List ℕ) (h : ℕ) → c .heading s station h .field ≡ fieldBeside (c .heading s station h .number) s
+  pub header-refused : (s station : List ℕ) (h : ℕ) → (c .heading s station h .number ≡ 0 → ⊥) → c .heading s station h .given ≡ noHeader
+  pub text-numbered : (s station : List ℕ) (t u : ℕ) → Numbered (c .texting s station t u .number) (textingRows s station t u)
+  pub text-field : (s station : List ℕ) (t u : ℕ) → c .texting s station t u .field ≡ fieldBeside (c .texting s station t u .number) s
+  pub text-refused : (s station : List ℕ) (t u : ℕ) → (c .texting s station t u .number ≡ 0 → ⊥) → c .texting s station t u .given ≡ noText
   pub canadian-numbered : (s : List ℕ) (t u : ℕ) → Numbered (c .canadian s t u .number) (canadianRows s t u)
   pub canadian-field : (s : List ℕ) (t u : ℕ) → c .canadian s t u .field ≡ fieldBeside (c .canadian s t u .number) s
   pub canadian-refused : (s : List ℕ) (t u : ℕ) → (c .canadian s t u .number ≡ 0 → ⊥) → c .canadian s t u .given ≡ noText
@@ -44,16 +47,20 @@ pub record Demand1 (c : Calls) : Type 0 where
 -- passes 1,800 characters. Reading a written header gives back its originator, event, locations in order, period, time and station; writing what was read from any
 -- accepted header gives the same bytes.
 pub record Demand2 (c : Calls) : Type 0 where
-  pub gives-all : (s station : List ℕ) (h t u : ℕ) → noneApplies (conversionRows s station h t u) ≡ true → isQuiet s ≡ false →
-      c .conversion s station h t u .given ≡ wholeOf s station
+  pub gives-header : (s station : List ℕ) (h : ℕ) → noneApplies (headingRows s station h) ≡ true → isQuiet s ≡ false →
+      c .heading s station h .given ≡ wholeHeader s station
+  pub gives-text : (s station : List ℕ) (t u : ℕ) → noneApplies (textingRows s station t u) ≡ true → isQuiet s ≡ false →
+      c .texting s station t u .given ≡ wholeText s
   -- a quiet Cancel answers 0, with no header, text or audio
-  pub quiet-gives-nothing : (s station : List ℕ) (h t u : ℕ) → noneApplies (conversionRows s station h t u) ≡ true → isQuiet s ≡ true →
-      c .conversion s station h t u .given ≡ nothing
-  pub text-short : (s station : List ℕ) (h t u : ℕ) → Spelt (c .conversion s station h t u .given .text)
+  pub quiet-gives-no-header : (s station : List ℕ) (h : ℕ) → noneApplies (headingRows s station h) ≡ true → isQuiet s ≡ true →
+      c .heading s station h .given ≡ noHeader
+  pub quiet-gives-no-text : (s station : List ℕ) (t u : ℕ) → noneApplies (textingRows s station t u) ≡ true → isQuiet s ≡ true →
+      c .texting s station t u .given ≡ noText
+  pub text-short : (s station : List ℕ) (t u : ℕ) → Spelt (c .texting s station t u .given .text)
   pub canadian-gives-all : (s : List ℕ) (t u : ℕ) → noneApplies (canadianRows s t u) ≡ true → c .canadian s t u .given ≡ wholeInCanada s
   pub canadian-short : (s : List ℕ) (t u : ℕ) → Spelt (c .canadian s t u .given .text)
-  pub header-reads-back : (s station : List ℕ) (h t u : ℕ) → noneApplies (conversionRows s station h t u) ≡ true → isQuiet s ≡ false →
-      c .reading (c .conversion s station h t u .given .header) ≡ record { number = 0; parts = headerParts s station }
+  pub header-reads-back : (s station : List ℕ) (h : ℕ) → noneApplies (headingRows s station h) ≡ true → isQuiet s ≡ false →
+      c .reading (c .heading s station h .given .header) ≡ record { number = 0; parts = headerParts s station }
   pub read-gives-back : (d : List ℕ) (p : Parts) → c .writing d p .answer .number ≡ 0 →
       c .reading (take (c .writing d p .answer .len) (c .writing d p .bytes)) ≡ record { number = 0; parts = p }
   pub write-gives-back : (s d : List ℕ) → c .reading s .number ≡ 0 → 252 ≤ length d →
@@ -76,8 +83,8 @@ pub record Demand3 (c : Calls) : Type 0 where
   pub list-rows : (b : List ℕ) (rows : ℕ) → c .listing b rows .answer .number ≡ 0 →
       (c .listing b rows .rows ≡ map (rowOf (boardOf b)) (dueHeaders (boardOf b))) × (c .listing b rows .answer .count ≡ length (dueHeaders (boardOf b)))
   -- a header on a board, without its year, is the conversion's without its station
-  pub on-board : (s station : List ℕ) (h t u : ℕ) → noneApplies (conversionRows s station h t u) ≡ true → isQuiet s ≡ false →
-      (front : List ℕ) × (ownHeader s ≡ pad 243 front) × (c .conversion s station h t u .given .header ≡ front ++ (station ++ (45 ∷ [])))
+  pub on-board : (s station : List ℕ) (h : ℕ) → noneApplies (headingRows s station h) ≡ true → isQuiet s ≡ false →
+      (front : List ℕ) × (ownHeader s ≡ pad 243 front) × (c .heading s station h .given .header ≡ front ++ (station ++ (45 ∷ [])))
   -- Offer the same alerts to two empty boards, each in its own order, each alert once or more, with no hand-out between and no offer refused for room. The filled
   -- records are then equal byte by byte.
   pub same-records : (b b′ : List ℕ) → Empty b → Empty b′ → (ms ms′ : List (List ℕ)) → ((m : List ℕ) → In m ms → In m ms′) → ((m : List ℕ) → In m ms′ → In m ms) →
@@ -88,6 +95,11 @@ pub record Demand3 (c : Calls) : Type 0 where
   pub in-order : (b : List ℕ) → isBoard b ≡ true → (n : ℕ) → handOuts c n b ≡ take (min n (emptiesIn b)) (dueHeaders (boardOf b))
   -- Over any mixture of offers and hand-outs on a board that began empty, no header with its year is handed out twice.
   pub never-twice : (b : List ℕ) → Empty b → (cs : List BoardCall) → Once (handedOut c cs b)
+
+-- Of the two calls of a conversion: on every message both give the same number and field when all outputs are long enough.
+pub record BothAlike (c : Calls) : Type 0 where
+  pub same-number : (s station : List ℕ) (h t u : ℕ) → 252 ≤ h → 7200 ≤ t → 1024 ≤ u → c .heading s station h .number ≡ c .texting s station t u .number
+  pub same-field : (s station : List ℕ) (h t u : ℕ) → 252 ≤ h → 7200 ≤ t → 1024 ≤ u → c .heading s station h .field ≡ c .texting s station t u .field
 
 pub record Demands (c : Calls) : Type 0 where
   pub first : Demand1 c

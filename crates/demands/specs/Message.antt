@@ -28,7 +28,7 @@ use Rattle.sentence.specs.Words.{sentenceOf}
 use Rattle.wording.specs.Text.{textOf}
 use Rattle.outputs.specs.Outputs.{TextGiven}
 use Rattle.canadian.specs.Canadian.{canadianText}
-use Rattle.convert.specs.Convert.{Given}
+use Rattle.convert.specs.Convert.{HeaderGiven}
 
 -- ---- its alert and its selected info
 
@@ -162,14 +162,16 @@ pub record Spelt (t : List ℕ) : Type 0 where
   pub characters : length (charsOf t) ≤ 1800
   pub size : length t ≤ 7200
 
--- all that a message gives that answers 0 and is not quiet
-unfoldable pub wholeOf : List ℕ → List ℕ → Given
-wholeOf s station = record {
-  header = headerBytes (headerParts s station);
+-- header and must-carry of a message that answers 0 and is not quiet
+unfoldable pub wholeHeader : List ℕ → List ℕ → HeaderGiven
+wholeHeader s station = record { header = headerBytes (headerParts s station); carry = mustCarry s }
+
+-- its text and audio
+unfoldable pub wholeText : List ℕ → TextGiven
+wholeText s = record {
   text = utf8 (alertText s);
   audio = audioIn s (prefix s) (info s) .number;
   uri = audioIn s (prefix s) (info s) .uri;
-  carry = mustCarry s;
 }
 
 -- all that it gives in the Canadian mode, where it answers 0: text and audio only

@@ -115,18 +115,23 @@ headerRows s =
 abbrev pub takenRows : List ℕ → List NumberRow
 takenRows s = messageRows s ++ headerRows s
 
--- ---- conversion asks 2 to 14
+-- ---- conversion asks 2 to 14, in each of its calls
 
 -- LLLLLLLL: exactly 8 bytes, 32 to 126, not `-` or `+`
 abbrev pub isStation : List ℕ → Bool
 isStation t = every holds (eqb (length t) 8 ∷ every (λ b. every holds (between 32 126 b ∷ not (eqb b 45) ∷ not (eqb b 43) ∷ [])) t ∷ [])
 
--- 2 lent output short: header 252, text 7,200, uri 1,024; 3 station
-abbrev pub conversionRows : List ℕ → List ℕ → ℕ → ℕ → ℕ → List NumberRow
-conversionRows s station header text uri =
-    row 2 (not (every holds (leb 252 header ∷ leb 7200 text ∷ leb 1024 uri ∷ [])))
-    ∷ row 3 (not (isStation station))
-    ∷ takenRows s
+-- 2 lent output short, which asks in each only what that call writes; both take the station: 3
+abbrev pub callRows : Bool → List ℕ → List ℕ → List NumberRow
+callRows long s station = row 2 (not long) ∷ row 3 (not (isStation station)) ∷ takenRows s
+
+-- header 252
+abbrev pub headingRows : List ℕ → List ℕ → ℕ → List NumberRow
+headingRows s station header = callRows (leb 252 header) s station
+
+-- text 7,200, uri 1,024
+abbrev pub textingRows : List ℕ → List ℕ → ℕ → ℕ → List NumberRow
+textingRows s station text uri = callRows (every holds (leb 7200 text ∷ leb 1024 uri ∷ [])) s station
 
 -- ---- the Canadian mode asks 2, 4 to 9, then 18
 

@@ -1,7 +1,8 @@
 -- Stand-ins for the library's calls. Document 01, "Holding a promise to its result", has five rejected: a converter that always refuses, or always gives one
--- header; an offer that writes nothing, or returns an invented added count; a hand-out that gives the first header and ever after says nothing is due. A Canadian
--- mode that always refuses is rejected too, and a hand-out that forgets the year of a header. Each is the library but for one call. The last answers as the library
--- does and is written otherwise. Before them, the messages and boards on which they are tried.
+-- header; an offer that writes nothing, or returns an invented added count; a hand-out that gives the first header and ever after says nothing is due. Of the calls
+-- of a conversion each that always refuses is rejected by itself, and a text call that does not judge the station; a Canadian mode that always refuses is rejected
+-- too, and a hand-out that forgets the year of a header. Each is the library but for one call. The last answers as the library does and is written otherwise. Before
+-- them, the messages and boards on which they are tried.
 use Prim.Native.Nat.{ℕ}
 use Prim.Native.String.{String}
 use mathlib.Core.Path.{_≡_}
@@ -13,10 +14,9 @@ use Rattle.octets.specs.Bytes.{pick, same}
 use Rattle.octets.specs.Text.{bytes}
 use Rattle.parts.specs.declared.Parts.{Parts}
 use Rattle.told.specs.Values.{isNone}
-use Rattle.outputs.specs.Outputs.{TextOutcome}
+use Rattle.outputs.specs.Outputs.{alone, TextOutcome}
 use Rattle.outputs.specs.WorkingOutputs.{textRefused}
-use Rattle.convert.specs.Convert.{Given, Outcome, nothing}
-use Rattle.convert.specs.WorkingConvert.{refusedWith}
+use Rattle.convert.specs.Convert.{HeaderGiven, noHeader, HeaderOutcome}
 use Rattle.records.specs.Record.{kind, header, pad, keyOf, notice}
 use Rattle.board.specs.Rules.{boardOf}
 use Rattle.board.specs.WorkingRules.{encode}
@@ -104,10 +104,24 @@ weeklyDue = encode 1536 (weeklyNotice 321213630 ∷ weeklyNotice 352749630 ∷ w
 
 -- ---- those that are rejected
 
--- the library, but for its conversion
-abbrev pub converting : ((s station : List ℕ) (header text uri : ℕ) → Outcome) → Calls
-converting conversion = record {
-  conversion = conversion;
+-- the library, but for its headers
+abbrev pub headingBy : ((s station : List ℕ) (header : ℕ) → HeaderOutcome) → Calls
+headingBy heading = record {
+  heading = heading;
+  texting = library .texting;
+  canadian = library .canadian;
+  offering = library .offering;
+  handing = library .handing;
+  listing = library .listing;
+  reading = library .reading;
+  writing = library .writing;
+}
+
+-- but for its texts
+abbrev pub textingBy : ((s station : List ℕ) (text uri : ℕ) → TextOutcome) → Calls
+textingBy texting = record {
+  heading = library .heading;
+  texting = texting;
   canadian = library .canadian;
   offering = library .offering;
   handing = library .handing;
@@ -119,7 +133,8 @@ converting conversion = record {
 -- but for its Canadian mode
 abbrev pub inCanadaBy : ((s : List ℕ) (text uri : ℕ) → TextOutcome) → Calls
 inCanadaBy canadian = record {
-  conversion = library .conversion;
+  heading = library .heading;
+  texting = library .texting;
   canadian = canadian;
   offering = library .offering;
   handing = library .handing;
@@ -131,7 +146,8 @@ inCanadaBy canadian = record {
 -- but for its offers
 abbrev pub offeringBy : ((b s : List ℕ) → MessageOffering) → Calls
 offeringBy offering = record {
-  conversion = library .conversion;
+  heading = library .heading;
+  texting = library .texting;
   canadian = library .canadian;
   offering = offering;
   handing = library .handing;
@@ -143,7 +159,8 @@ offeringBy offering = record {
 -- but for its hand-outs
 abbrev pub handingBy : ((b : List ℕ) → Handing) → Calls
 handingBy handing = record {
-  conversion = library .conversion;
+  heading = library .heading;
+  texting = library .texting;
   canadian = library .canadian;
   offering = library .offering;
   handing = handing;
@@ -152,22 +169,30 @@ handingBy handing = record {
   writing = library .writing;
 }
 
--- every conversion is refused, with this number and zeros elsewhere
-abbrev pub alwaysRefuses : ℕ → Calls
-alwaysRefuses number = converting (λ s station h t u. refusedWith number)
+-- every header is refused, with this number and zeros elsewhere
+abbrev pub refusesHeaders : ℕ → Calls
+refusesHeaders number = headingBy (λ s station h. alone noHeader number 0)
 
--- the same of the Canadian mode
+-- the same of every text
+abbrev pub refusesTexts : ℕ → Calls
+refusesTexts number = textingBy (λ s station t u. textRefused number 0)
+
+-- of every text in the Canadian mode
 abbrev pub refusesInCanada : ℕ → Calls
 refusesInCanada number = inCanadaBy (λ s t u. textRefused number 0)
 
 -- every message has its own number, and one that gives a header gives the same as any other, chosen by the station
-abbrev pub oneHeader : (List ℕ → Given) → Calls
-oneHeader one = converting (λ s station h t u.
-    let o = library .conversion s station h t u in record {
+abbrev pub oneHeader : (List ℕ → HeaderGiven) → Calls
+oneHeader one = headingBy (λ s station h.
+    let o = library .heading s station h in record {
       number = o .number;
       field = o .field;
-      given = pick (isNone (o .given .header)) nothing (one station);
+      given = pick (isNone (o .given .header)) noHeader (one station);
     })
+
+-- a text does not hang on the station, and whatever is lent for one is taken
+abbrev pub forgetsStations : Calls
+forgetsStations = textingBy (λ s station t u. library .texting s bench t u)
 
 -- the answer is the library's, and the bytes stay as they were
 abbrev pub writesNothing : Calls
@@ -195,7 +220,8 @@ forgetsYears = handingBy (λ b.
 
 -- each call answers as the library's, whatever it is lent
 pub record SameAnswers (c : Calls) : Type 0 where
-  pub conversion : (s station : List ℕ) (h t u : ℕ) → c .conversion s station h t u ≡ library .conversion s station h t u
+  pub heading : (s station : List ℕ) (h : ℕ) → c .heading s station h ≡ library .heading s station h
+  pub texting : (s station : List ℕ) (t u : ℕ) → c .texting s station t u ≡ library .texting s station t u
   pub canadian : (s : List ℕ) (t u : ℕ) → c .canadian s t u ≡ library .canadian s t u
   pub offering : (b s : List ℕ) → c .offering b s ≡ library .offering b s
   pub handing : (b : List ℕ) → c .handing b ≡ library .handing b
@@ -206,7 +232,8 @@ pub record SameAnswers (c : Calls) : Type 0 where
 -- a message is copied before it is converted or offered, and nothing is put behind a header before it is read
 abbrev pub careful : Calls
 careful = record {
-  conversion = λ s station h t u. library .conversion (take (length s) s) station h t u;
+  heading = λ s station h. library .heading (take (length s) s) station h;
+  texting = λ s station t u. library .texting (take (length s) s) station t u;
   canadian = λ s t u. library .canadian (take (length s) s) t u;
   offering = λ b s. library .offering b (take (length s) s);
   handing = library .handing;

@@ -13,7 +13,7 @@ use Rattle.parts.specs.declared.Originator.{Originator}
 use Rattle.parts.specs.declared.Body.{Body}
 use Rattle.reads.specs.WorkingLeaves.{easOrgLeaf}
 use Rattle.reads.specs.declared.Locations.{Locations}
-use Rattle.message.specs.WorkingMessage.{messageSays, infoIn}
+use Rattle.message.specs.WorkingMessage.{refusedAs, messageSays, infoIn}
 use Rattle.message.specs.declared.Message.{Message}
 use Rattle.judgement.specs.WorkingRules.{lacksReferences, expiresIn, eventIs, originOf, located, secondsTo, quietOf}
 use Rattle.judgement.specs.declared.Judged.{Judged}
@@ -21,6 +21,10 @@ use Rattle.judgement.specs.declared.Judged.{Judged}
 -- a message that gives no header: refused, or a quiet Cancel, which answers 0
 abbrev pub without : Message → ℕ → Bool → Judged
 without m number quiet = record { number = number; field = m .field; quiet = quiet; body = noBody; message = m }
+
+-- a refusal before anything is read of a message of n bytes
+abbrev pub refusedBefore : ℕ → ℕ → Judged
+refusedBefore n number = without (refusedAs n number) number false
 
 -- the header through the dash after JJJHHMM: the first 31 locations in message order, the period of the seconds from sent to expires, and sent in UTC
 unfoldable pub bodyWith : Originator → List ℕ → Locations → ℕ → ℕ → Body

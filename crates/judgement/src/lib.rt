@@ -11,7 +11,7 @@ ghost use Prim.Native.Nat.{_<_, _-_};
 ghost use Rattle.octets.specs.Bytes.{every, holds};
 ghost use Rattle.clock.specs.Time.{span};
 ghost use Rattle.judgement.specs.WorkingRules.{asksReferences, referenced, lacksReferences, noEvent, eventOf, originOf, located, secondsTo, unplaced, complete, isCancel, quietOf};
-ghost use Rattle.judgement.specs.WorkingJudged.{without, bodyWith, alerted, judgedOf};
+ghost use Rattle.judgement.specs.WorkingJudged.{without, refusedBefore, bodyWith, alerted, judgedOf};
 
 // The event of a header, or that there is none.
 pub struct Event {
@@ -201,6 +201,13 @@ fn no_header(m: Message, number: u32, quiet: bool) -> Judged
         body: parts::no_body(),
         message: m,
     }
+}
+
+// A refusal before anything is read of a message of n bytes.
+pub fn refused(n: usize, number: u32) -> Judged
+    ensures { λ r. ⌜ r ≡ refusedBefore n number ⌝ }
+{
+    no_header(message::refused(n, number), number, false)
 }
 
 fn body_with(o: Originator, event: [u8; 3], l: Locations, seconds: u32, sent: u32) -> Body

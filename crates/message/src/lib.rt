@@ -31,7 +31,7 @@ pub struct Message {
 }
 
 // A refusal, of a message of n bytes.
-fn refused(n: usize, number: u32) -> Message
+pub fn refused(n: usize, number: u32) -> Message
     ensures { λ r. ⌜ r ≡ refusedAs n number ⌝ }
 {
     let st = reads::new_state(n);

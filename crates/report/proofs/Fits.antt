@@ -1,5 +1,5 @@
--- How long what a conversion gives is, and what the program prints of it.
---     given-fits      at most the lengths that a conversion asks of its outputs
+-- How long what both calls give is, and what the program prints of it.
+--     both-fit        at most the lengths that they ask of their outputs
 --     program-le      at most the room lent
 use Prim.Native.Nat.{ℕ, _≤_}
 use mathlib.Core.List.{List, []}
@@ -9,24 +9,26 @@ use lib.Dec.{ltb}
 use lib.ListN.{length}
 use Rattle.octets.specs.Text.{bytes}
 use Rattle.octets.proofs.Tests.{either-way}
-use Rattle.convert.proofs.Answers.{convert-small}
-use Rattle.convert.specs.Convert.{Given, answerOf}
-use Rattle.convert.specs.WorkingConvert.{convertOf}
-use Rattle.report.specs.Program.{benchOf, printed, programOf}
+use Rattle.outputs.specs.Outputs.{textAnswerOf}
+use Rattle.convert.specs.Convert.{headerAnswerOf}
+use Rattle.convert.proofs.Answers.{header-small, text-small}
+use Rattle.report.specs.Program.{BothOutcomes, benchOf, printed, programOf}
 use Rattle.report.proofs.Lengths.{AtMost, lines-le}
 
-pub record Fits (g : Given) : Type 0 where
-  pub header : length (g .header) ≤ 252
-  pub text : length (g .text) ≤ 7200
-  pub uri : length (g .uri) ≤ 1024
+pub record BothFit (o : BothOutcomes) : Type 0 where
+  pub header : length (o .headed .given .header) ≤ 252
+  pub text : length (o .worded .given .text) ≤ 7200
+  pub uri : length (o .worded .given .uri) ≤ 1024
 
-pub given-fits : (s station : List ℕ) (h t u : ℕ) → Fits (convertOf s station h t u .given)
-unfolding answerOf
-given-fits s station h t u = let c = convert-small s station h t u in record { header = c .header; text = c .text; uri = c .uri }
+pub both-fit : (message : List ℕ) → BothFit (benchOf message)
+unfolding headerAnswerOf textAnswerOf
+both-fit message =
+    let w = text-small message (bytes "BENCH/01") 7200 1024 in
+    record { header = header-small message (bytes "BENCH/01") 252 .header; text = w .text; uri = w .uri }
 
 pub printed-le : (message : List ℕ) → length (printed (benchOf message)) ≤ 8600
 printed-le message =
-    let f = given-fits message (bytes "BENCH/01") 252 7200 1024 in
+    let f = both-fit message in
     lines-le _ _ _ _ _ _ _ (f .header) (f .uri) (f .text)
 
 pub program-le : (room : ℕ) (message : List ℕ) → length (programOf room message) ≤ room

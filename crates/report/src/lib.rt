@@ -148,7 +148,7 @@ pub fn put_lines(
     put_alert(out, a, header, audio, uri, carry, text)
 }
 
-// Converts a message, and puts the lines that the program prints at the start of `out`, or nothing where it is shorter than ROOM.
+// Converts a message by both calls, and puts the lines that the program prints at the start of `out`, or nothing where it is shorter than ROOM.
 pub fn program(message: &[u8], out: &mut [u8]) -> usize
     ensures { λ r. ⌜ r ≡ length (programOf (length (now (out .entry))) (now (message .entry))) ⌝ }
     ensures { λ _. ⌜ now (out .exit) ≡ sets (now (out .entry)) 0 (programOf (length (now (out .entry))) (now (message .entry))) ⌝ }
@@ -159,18 +159,19 @@ pub fn program(message: &[u8], out: &mut [u8]) -> usize
     let mut header = [0u8; 252];
     let mut text = [0u8; 7200];
     let mut uri = [0u8; 1024];
-    let c = convert::convert(message, b"BENCH/01", &mut header, &mut text, &mut uri);
-    let h = c.header;
-    let u = c.uri;
-    let t = c.text;
+    let headed = convert::header(message, b"BENCH/01", &mut header);
+    let worded = convert::text(message, b"BENCH/01", &mut text, &mut uri);
+    let h = headed.header;
+    let u = worded.uri;
+    let t = worded.text;
     put_lines(
         out,
-        c.number,
-        c.field,
+        headed.number,
+        headed.field,
         &header[..h],
-        c.audio,
+        worded.audio,
         &uri[..u],
-        c.carry,
+        headed.carry,
         &text[..t],
     )
 }

@@ -13,16 +13,16 @@ use Rattle.outputs.specs.declared.TextAudio.{TextAudio}
 use Rattle.outputs.proofs.Answers.{SmallText}
 use Rattle.canadian.specs.WorkingCanadian.{canadianOf}
 use Rattle.canadian.proofs.Answers.{canadian-small}
-use Rattle.convert.proofs.Answers.{Small, convert-small}
-use Rattle.convert.specs.WorkingConvert.{convertOf}
-use Rattle.convert.specs.Convert.{answerOf}
-use Rattle.convert.specs.declared.Converted.{Converted}
+use Rattle.convert.proofs.Answers.{SmallHeader, header-small, text-small}
+use Rattle.convert.specs.WorkingConvert.{headerCall, textCall}
+use Rattle.convert.specs.Convert.{headerAnswerOf}
+use Rattle.convert.specs.declared.Headed.{Headed}
 use Rattle.header.proofs.ReadThenWrite.{read-small}
 use Rattle.header.proofs.WriteThenRead.{write-small}
 use Rattle.header.specs.Header.{readOf, writeOf}
 use Rattle.header.specs.declared.Read.{Read}
 use Rattle.header.specs.declared.Written.{Written}
-use Rattle.stuiverhaag.specs.Packed.{NarrowText, NarrowConverted, packedBody, NarrowBody, packedRead}
+use Rattle.stuiverhaag.specs.Packed.{NarrowHeaded, NarrowText, packedBody, NarrowBody, packedRead}
 use Rattle.parts.specs.Originator.{originatorNumber}
 use Rattle.parts.specs.declared.Originator.{Originator}
 use Rattle.parts.specs.declared.Originator.the-variants.{Pep, Eas, Wxr, Civ}
@@ -40,21 +40,24 @@ use Rattle.offers.specs.WorkingOffer.{offerRefusedBy, offerGiven, messageOffer}
 use Rattle.offers.specs.declared.Offered.{Offered}
 use Rattle.offers.proofs.Offering.{judged-small}
 
+-- ---- header and must-carry
+
+pub header-narrow : (s station : List ℕ) (h : ℕ) (c : Headed) → c ≡ headerAnswerOf (headerCall s station h) → NarrowHeaded c
+header-narrow s station h c is = rw is (narrow-header (header-small s station h))
+  where
+    narrow-header : {c : Headed} → SmallHeader c → NarrowHeaded c
+    narrow-header w = record { number = omega arith; field = omega arith; header = omega arith }
+
 -- ---- text and audio
+
+narrow-text : {a : TextAudio} → SmallText a → NarrowText a
+narrow-text w = record { number = omega arith; field = omega arith; audio = omega arith; uri = omega arith; text = omega arith }
+
+pub text-narrow : (s station : List ℕ) (t u : ℕ) (a : TextAudio) → a ≡ textAnswerOf (textCall s station t u) → NarrowText a
+text-narrow s station t u a is = rw is (narrow-text (text-small s station t u))
 
 pub canadian-narrow : (s : List ℕ) (t u : ℕ) (a : TextAudio) → a ≡ textAnswerOf (canadianOf s t u) → NarrowText a
 canadian-narrow s t u a is = rw is (narrow-text (canadian-small s t u))
-  where
-    narrow-text : {a : TextAudio} → SmallText a → NarrowText a
-    narrow-text w = record { number = omega arith; field = omega arith; audio = omega arith; uri = omega arith; text = omega arith }
-
--- ---- a conversion
-
-pub convert-narrow : (s station : List ℕ) (h t u : ℕ) (c : Converted) → c ≡ answerOf (convertOf s station h t u) → NarrowConverted c
-convert-narrow s station h t u c is = rw is (narrow (convert-small s station h t u))
-  where
-    narrow : {c : Converted} → Small c → NarrowConverted c
-    narrow a = record { number = omega arith; field = omega arith; header = omega arith; audio = omega arith; uri = omega arith; text = omega arith }
 
 -- ---- a header read
 

@@ -1,6 +1,6 @@
 -- What a host takes out of an answer, part by part as the functions of include/stuiverhaag.h do, is what was answered.
---     convert-unpacked, canadian-unpacked, read-unpacked, write-unpacked, offer-unpacked, hand-out-unpacked    for each call
---     refusal-alone, canadian-alone                                                          a refusal is its number and its field
+--     header-unpacked, text-unpacked, canadian-unpacked, read-unpacked, write-unpacked, offer-unpacked, hand-out-unpacked    for each call
+--     header-alone, text-alone, canadian-alone                                               a refusal is its number and its field
 use Prim.Native.Nat.{ℕ, _+_, _*_, _/_, _%_, _≤_}
 use mathlib.Core.Bool.{Bool, true, false}
 use mathlib.Core.List.{List}
@@ -16,49 +16,50 @@ use Rattle.header.proofs.WriteThenRead.{write-small}
 use Rattle.header.specs.Header.{partsIn, refusal, headerForm, readOf, writeNumber, writeOf}
 use Rattle.header.specs.declared.Read.{Read}
 use Rattle.header.specs.declared.Written.{Written}
-use Rattle.outputs.specs.Outputs.{TextOutcome, textAnswerOf}
+use Rattle.outputs.specs.Outputs.{noText, TextOutcome, textAnswerOf}
+use Rattle.outputs.specs.WorkingOutputs.{textRefused}
 use Rattle.outputs.specs.declared.TextAudio.{TextAudio}
 use Rattle.canadian.specs.WorkingCanadian.{canadianOf}
 use Rattle.canadian.proofs.Answers.{canadian-refused}
-use Rattle.convert.proofs.Answers.{convert-refused}
-use Rattle.convert.specs.Convert.{Outcome, answerOf}
-use Rattle.convert.specs.WorkingConvert.{convertOf}
-use Rattle.convert.specs.declared.Converted.{Converted}
+use Rattle.convert.proofs.Answers.{call-refused}
+use Rattle.convert.specs.Convert.{noHeader, HeaderOutcome, headerAnswerOf}
+use Rattle.convert.specs.WorkingConvert.{headerCall, textCall}
+use Rattle.convert.specs.declared.Headed.{Headed}
 use Rattle.board.specs.WorkingCalls.{handOf}
 use Rattle.board.specs.declared.Handed.{Handed}
 use Rattle.offers.specs.WorkingOffer.{messageOffer}
 use Rattle.offers.specs.declared.Offered.{Offered}
-use Rattle.stuiverhaag.proofs.Packing.{canadian-narrow, convert-narrow, read-narrow, offer-narrow, hand-narrow}
-use Rattle.stuiverhaag.specs.Packed.{bit8, bit16, bit24, bit28, bit32, bit48, bit55, packedText, packedConverted, NarrowConverted, NarrowBody, packedRead, packedWritten, packedOffered, packedHanded}
+use Rattle.stuiverhaag.proofs.Packing.{header-narrow, text-narrow, canadian-narrow, read-narrow, offer-narrow, hand-narrow}
+use Rattle.stuiverhaag.specs.Packed.{bit8, bit16, bit24, bit28, bit32, bit48, bit55, packedHeaded, NarrowHeaded, packedText, NarrowText, NarrowBody, packedRead, packedWritten, packedOffered, packedHanded}
 
--- ---- a conversion
+-- ---- header and must-carry
 
-pub record HasConverted (n : ℕ) (c : Converted) : Type 0 where
+pub record HasHeaded (n : ℕ) (c : Headed) : Type 0 where
   pub number : n % 256 ≡ c .number
   pub field : n / bit8 % 256 ≡ c .field
   pub header : n / bit16 % 256 ≡ c .header
-  pub audio : n / bit24 % 16 ≡ c .audio
   pub carry : n / bit28 % 16 ≡ pick (c .carry) 1 0
-  pub uri : n / bit32 % 65536 ≡ c .uri
-  pub text : n / bit48 % 65536 ≡ c .text
+  -- the parts of text and audio are none
+  pub no-audio : n / bit24 % 16 ≡ 0
+  pub no-uri : n / bit32 % 65536 ≡ 0
+  pub no-text : n / bit48 % 65536 ≡ 0
 
 carried : (b : Bool) → (pick {A = ℕ} b 1 0 ≤ 1) × (pick {A = ℕ} b bit28 0 ≡ pick b 1 0 * bit28)
 carried true = (omega arith, refl)
 carried false = (omega arith, refl)
 
-has-converted : (c : Converted) → NarrowConverted c → HasConverted (packedConverted c) c
-has-converted c w =
+has-headed : (c : Headed) → NarrowHeaded c → HasHeaded (packedHeaded c) c
+has-headed c w =
     let one = carried (c .carry) .0 in
     let is = carried (c .carry) .1 in
-    record { number = omega arith; field = omega arith; header = omega arith; audio = omega arith; carry = omega arith; uri = omega arith; text = omega arith }
+    record { number = omega arith; field = omega arith; header = omega arith; carry = omega arith; no-audio = omega arith; no-uri = omega arith; no-text = omega arith }
 
-pub convert-unpacked : (s station : List ℕ) (h t u : ℕ) → let c = answerOf (convertOf s station h t u) in HasConverted (packedConverted c) c
-convert-unpacked s station h t u = has-converted (answerOf (convertOf s station h t u)) (convert-narrow s station h t u _ refl)
+pub header-unpacked : (s station : List ℕ) (h : ℕ) → let c = headerAnswerOf (headerCall s station h) in HasHeaded (packedHeaded c) c
+header-unpacked s station h = has-headed (headerAnswerOf (headerCall s station h)) (header-narrow s station h _ refl)
 
-pub refusal-alone : (s station : List ℕ) (h t u : ℕ) → let o = convertOf s station h t u in (o .number ≡ 0 → ⊥) → packedConverted (answerOf o) ≡ o .number + o .field * bit8
-unfolding answerOf
-refusal-alone s station h t u e =
-    ap (λ (x : Outcome). packedConverted (answerOf x)) (convert-refused s station h t u e) ∙ omega arith
+pub header-alone : (s station : List ℕ) (h : ℕ) → let o = headerCall s station h in (o .number ≡ 0 → ⊥) → packedHeaded (headerAnswerOf o) ≡ o .number + o .field * bit8
+unfolding headerAnswerOf headerCall
+header-alone s station h e = ap (λ (x : HeaderOutcome). packedHeaded (headerAnswerOf x)) (call-refused noHeader _ _ s station e) ∙ omega arith
 
 -- ---- text and audio
 
@@ -68,18 +69,31 @@ pub record HasText (n : ℕ) (t : TextAudio) : Type 0 where
   pub audio : n / bit24 % 16 ≡ t .audio
   pub uri : n / bit32 % 65536 ≡ t .uri
   pub text : n / bit48 % 65536 ≡ t .text
-  -- a conversion's other parts are none
+  -- the parts of header and must-carry are none
   pub no-header : n / bit16 % 256 ≡ 0
   pub no-carry : n / bit28 % 16 ≡ 0
 
-pub canadian-unpacked : (s : List ℕ) (t u : ℕ) → let a = textAnswerOf (canadianOf s t u) in HasText (packedText a) a
-canadian-unpacked s t u =
-    let w = canadian-narrow s t u _ refl in
+has-text : (t : TextAudio) → NarrowText t → HasText (packedText t) t
+has-text t w =
     record { number = omega arith; field = omega arith; audio = omega arith; uri = omega arith; text = omega arith; no-header = omega arith; no-carry = omega arith }
 
-pub canadian-alone : (s : List ℕ) (t u : ℕ) → let o = canadianOf s t u in (o .number ≡ 0 → ⊥) → packedText (textAnswerOf o) ≡ o .number + o .field * bit8
+pub text-unpacked : (s station : List ℕ) (t u : ℕ) → let a = textAnswerOf (textCall s station t u) in HasText (packedText a) a
+text-unpacked s station t u = has-text (textAnswerOf (textCall s station t u)) (text-narrow s station t u _ refl)
+
+pub canadian-unpacked : (s : List ℕ) (t u : ℕ) → let a = textAnswerOf (canadianOf s t u) in HasText (packedText a) a
+canadian-unpacked s t u = has-text (textAnswerOf (canadianOf s t u)) (canadian-narrow s t u _ refl)
+
+-- a refusal, of which nothing is given
+refusal-is : (o : TextOutcome) → o ≡ textRefused (o .number) (o .field) → packedText (textAnswerOf o) ≡ o .number + o .field * bit8
 unfolding textAnswerOf
-canadian-alone s t u e = ap (λ (x : TextOutcome). packedText (textAnswerOf x)) (canadian-refused s t u e) ∙ omega arith
+refusal-is o e = ap (λ (x : TextOutcome). packedText (textAnswerOf x)) e ∙ omega arith
+
+pub text-alone : (s station : List ℕ) (t u : ℕ) → let o = textCall s station t u in (o .number ≡ 0 → ⊥) → packedText (textAnswerOf o) ≡ o .number + o .field * bit8
+unfolding textCall
+text-alone s station t u e = refusal-is (textCall s station t u) (call-refused noText _ _ s station e)
+
+pub canadian-alone : (s : List ℕ) (t u : ℕ) → let o = canadianOf s t u in (o .number ≡ 0 → ⊥) → packedText (textAnswerOf o) ≡ o .number + o .field * bit8
+canadian-alone s t u e = refusal-is (canadianOf s t u) (canadian-refused s t u e)
 
 -- ---- a header read
 

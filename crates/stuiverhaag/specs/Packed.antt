@@ -8,7 +8,7 @@ use Rattle.parts.specs.declared.Body.{Body}
 use Rattle.header.specs.declared.Read.{Read}
 use Rattle.header.specs.declared.Written.{Written}
 use Rattle.outputs.specs.declared.TextAudio.{TextAudio}
-use Rattle.convert.specs.declared.Converted.{Converted}
+use Rattle.convert.specs.declared.Headed.{Headed}
 use Rattle.board.specs.declared.Handed.{Handed}
 use Rattle.offers.specs.declared.Offered.{Offered}
 
@@ -35,23 +35,19 @@ bit48 = 281474976710656
 abbrev pub bit55 : ℕ
 bit55 = 36028797018963968
 
--- ---- a conversion
+-- ---- header and must-carry
 
--- 8 field, 16 the header's length, 24 audio, 28 carry, 32 the uri's length, 48 the text's length
-abbrev pub packedConverted : Converted → ℕ
-packedConverted c =
-    c .number + c .field * bit8 + c .header * bit16 + c .audio * bit24 + pick (c .carry) bit28 0 + c .uri * bit32 + c .text * bit48
+-- 8 field, 16 the header's length, 28 carry
+abbrev pub packedHeaded : Headed → ℕ
+packedHeaded c = c .number + c .field * bit8 + c .header * bit16 + pick (c .carry) bit28 0
 
 -- what its bits hold
-pub record NarrowConverted (c : Converted) : Type 0 where
+pub record NarrowHeaded (c : Headed) : Type 0 where
   pub number : c .number ≤ 255
   pub field : c .field ≤ 255
   pub header : c .header ≤ 255
-  pub audio : c .audio ≤ 15
-  pub uri : c .uri ≤ 65535
-  pub text : c .text ≤ 65535
 
--- ---- the Canadian mode
+-- ---- text and audio, of the Canadian mode too
 
 -- 8 field, 24 audio, 32 the uri's length, 48 the text's length
 abbrev pub packedText : TextAudio → ℕ

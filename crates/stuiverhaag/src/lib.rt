@@ -1,5 +1,5 @@
 // What the bench host calls from C: numbers and lent slices in, one number out. include/stuiverhaag.h declares the same.
-use convert::Converted;
+use convert::Headed;
 use outputs::TextAudio;
 use parts::Body;
 ghost use mathlib.Core.Path.{_≡_};
@@ -11,11 +11,11 @@ ghost use Rattle.parts.specs.WorkingAsked.{askedParts};
 ghost use Rattle.header.specs.Header.{readOf, writeOf, writeBytes};
 ghost use Rattle.outputs.specs.Outputs.{textAnswerOf};
 ghost use Rattle.canadian.specs.WorkingCanadian.{canadianOf};
-ghost use Rattle.convert.specs.WorkingConvert.{convertOf};
-ghost use Rattle.convert.specs.Convert.{answerOf};
+ghost use Rattle.convert.specs.WorkingConvert.{headerCall, textCall};
+ghost use Rattle.convert.specs.Convert.{headerAnswerOf};
 ghost use Rattle.board.specs.WorkingCalls.{handOf};
 ghost use Rattle.offers.specs.WorkingOffer.{messageOffer};
-ghost use Rattle.stuiverhaag.specs.Packed.{bit28, packedText, NarrowText, packedConverted, NarrowConverted, packedBody, NarrowBody, packedRead, packedWritten, packedOffered, packedHanded};
+ghost use Rattle.stuiverhaag.specs.Packed.{bit28, packedText, NarrowText, packedHeaded, NarrowHeaded, packedBody, NarrowBody, packedRead, packedWritten, packedOffered, packedHanded};
 
 // What a bit counts.
 const BIT8: u64 = 256;
@@ -32,6 +32,35 @@ const BIT48: u64 = 281474976710656;
 
 const BIT55: u64 = 36028797018963968;
 
+// ---- header and must-carry
+
+fn pack_carry(carry: bool) -> u64
+    ensures { λ r. ⌜ r ≡ pick carry bit28 0 ⌝ }
+    ensures { λ r. ⌜ r ≤ bit28 ⌝ }
+{
+    if carry { BIT28 } else { 0 }
+}
+
+fn pack_headed(c: Headed) -> u64
+    requires { ⌜ NarrowHeaded c ⌝ }
+    ensures { λ r. ⌜ r ≡ packedHeaded c ⌝ }
+{
+    let number = c.number as u64;
+    let field = c.field as u64;
+    let header = c.header as u64;
+    number + field * BIT8 + header * BIT16 + pack_carry(c.carry)
+}
+
+// Gives the header of a message from the start of `header`, and must-carry, or 2 to 14 and nothing written.
+#[no_mangle]
+pub extern "C" fn stuiverhaag_header(message: &[u8], station: &[u8], header: &mut [u8]) -> u64
+    ensures { λ r. ⌜ r ≡ packedHeaded (headerAnswerOf (headerCall (now (message .entry)) (now (station .entry)) (length (now (header .entry))))) ⌝ }
+    ensures { λ _. ⌜ now (header .exit) ≡ sets (now (header .entry)) 0 (headerCall (now (message .entry)) (now (station .entry)) (length (now (header .entry))) .given .header) ⌝ }
+{
+    let c = convert::header(message, station, header);
+    pack_headed(c)
+}
+
 // ---- text and audio
 
 fn pack_text(t: TextAudio) -> u64
@@ -46,6 +75,22 @@ fn pack_text(t: TextAudio) -> u64
     number + field * BIT8 + audio * BIT24 + uri * BIT32 + text * BIT48
 }
 
+// Gives the text and the uri of a message, from the start of each output, or 2 to 14 and nothing written.
+#[no_mangle]
+pub extern "C" fn stuiverhaag_text(
+    message: &[u8],
+    station: &[u8],
+    text: &mut [u8],
+    uri: &mut [u8],
+) -> u64
+    ensures { λ r. ⌜ r ≡ packedText (textAnswerOf (textCall (now (message .entry)) (now (station .entry)) (length (now (text .entry))) (length (now (uri .entry))))) ⌝ }
+    ensures { λ _. ⌜ now (text .exit) ≡ sets (now (text .entry)) 0 (textCall (now (message .entry)) (now (station .entry)) (length (now (text .entry))) (length (now (uri .entry))) .given .text) ⌝ }
+    ensures { λ _. ⌜ now (uri .exit) ≡ sets (now (uri .entry)) 0 (textCall (now (message .entry)) (now (station .entry)) (length (now (text .entry))) (length (now (uri .entry))) .given .uri) ⌝ }
+{
+    let t = convert::text(message, station, text, uri);
+    pack_text(t)
+}
+
 // Gives the text and the uri of a message in the Canadian mode, from the start of each output, or 2, 4 to 9 and 18 and nothing written.
 #[no_mangle]
 pub extern "C" fn stuiverhaag_canadian(message: &[u8], text: &mut [u8], uri: &mut [u8]) -> u64
@@ -55,49 +100,6 @@ pub extern "C" fn stuiverhaag_canadian(message: &[u8], text: &mut [u8], uri: &mu
 {
     let t = canadian::convert(message, text, uri);
     pack_text(t)
-}
-
-// ---- a conversion
-
-fn pack_carry(carry: bool) -> u64
-    ensures { λ r. ⌜ r ≡ pick carry bit28 0 ⌝ }
-    ensures { λ r. ⌜ r ≤ bit28 ⌝ }
-{
-    if carry { BIT28 } else { 0 }
-}
-
-fn pack_converted(c: Converted) -> u64
-    requires { ⌜ NarrowConverted c ⌝ }
-    ensures { λ r. ⌜ r ≡ packedConverted c ⌝ }
-{
-    let header = c.header as u64;
-    let carry = pack_carry(c.carry);
-    let t = TextAudio {
-        number: c.number,
-        field: c.field,
-        audio: c.audio,
-        uri: c.uri,
-        text: c.text,
-    };
-    pack_text(t) + header * BIT16 + carry
-}
-
-// Converts a message: the header, the text and the uri from the start of each output, or 2 to 14 and nothing written.
-#[no_mangle]
-pub extern "C" fn stuiverhaag_convert(
-    message: &[u8],
-    station: &[u8],
-    header: &mut [u8],
-    text: &mut [u8],
-    uri: &mut [u8],
-) -> u64
-    ensures { λ r. ⌜ r ≡ packedConverted (answerOf (convertOf (now (message .entry)) (now (station .entry)) (length (now (header .entry))) (length (now (text .entry))) (length (now (uri .entry))))) ⌝ }
-    ensures { λ _. ⌜ now (header .exit) ≡ sets (now (header .entry)) 0 (convertOf (now (message .entry)) (now (station .entry)) (length (now (header .entry))) (length (now (text .entry))) (length (now (uri .entry))) .given .header) ⌝ }
-    ensures { λ _. ⌜ now (text .exit) ≡ sets (now (text .entry)) 0 (convertOf (now (message .entry)) (now (station .entry)) (length (now (header .entry))) (length (now (text .entry))) (length (now (uri .entry))) .given .text) ⌝ }
-    ensures { λ _. ⌜ now (uri .exit) ≡ sets (now (uri .entry)) 0 (convertOf (now (message .entry)) (now (station .entry)) (length (now (header .entry))) (length (now (text .entry))) (length (now (uri .entry))) .given .uri) ⌝ }
-{
-    let c = convert::convert(message, station, header, text, uri);
-    pack_converted(c)
 }
 
 // ---- a header

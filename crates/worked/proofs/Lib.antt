@@ -1,3 +1,4 @@
 pub mod Opens
 pub mod Hold
+pub mod HoldCalls
 pub mod HoldCanadian

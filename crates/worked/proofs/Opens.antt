@@ -52,7 +52,7 @@ use Rattle.wording.specs.Text.{afterSpace, cut, lastParts, phrase, roomOf, shar
 use Rattle.outputs.specs.WorkingOutputs.{roomyText, uriIn}
 use Rattle.canadian.specs.Canadian.{canadianText}
 use Rattle.canadian.specs.WorkingCanadian.{canadianBy, canadianGiven, canadianOf, wordsGiven}
-use Rattle.convert.specs.WorkingConvert.{alertGiven, convertOf, outcomeOf, roomy, textIn}
+use Rattle.convert.specs.WorkingConvert.{callOf, headerBy, headerCall, judgedFor, outcomeOf, textBy, textCall, textIn}
 use Rattle.report.specs.Lines.{alertLines, audioLine, audioWords, carryLine, decimal, line, linesOf, numberLine, orNone, valueLine}
 use Rattle.report.specs.Lines as report-lines
 use Rattle.report.specs.Program.{programOf}
@@ -136,7 +136,7 @@ unfolding canadianBy canadianGiven canadianOf canadianText wordsGiven
 canadian-opens = tt
 
 convert-opens : Unit {0}
-unfolding alertGiven convertOf outcomeOf roomy textIn
+unfolding callOf headerBy headerCall judgedFor outcomeOf textBy textCall textIn
 convert-opens = tt
 
 report-opens : Unit {0}

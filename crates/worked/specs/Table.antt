@@ -6,9 +6,8 @@ use mathlib.Core.Path.{_≡_}
 use mathlib.Core.List.{List, [], _∷_, _++_}
 use Rattle.octets.specs.Bytes.{pick, same}
 use Rattle.octets.specs.Text.{bytes}
-use Rattle.convert.specs.Convert.{Outcome}
 use Rattle.report.specs.Lines.{line, numberLine, audioLine, carryLine}
-use Rattle.report.specs.Program.{benchOf, printed}
+use Rattle.report.specs.Program.{BothOutcomes, benchOf, printed}
 
 -- ---- elements
 
@@ -146,18 +145,18 @@ repeated (suc n) t = t ++ repeated n t
 
 pub record WorkedRow : Type 0 where
   pub message : List ℕ
-  pub asks : Outcome → List ℕ
+  pub asks : BothOutcomes → List ℕ
   pub prints : List (List ℕ)
 
--- what is asked of the outcome: all that is printed, or its first line alone, or that and one more
-abbrev pub number : Outcome → List ℕ
-number o = numberLine (o .number) (o .field)
+-- what is asked of both calls: all that is printed, or its first line alone, or that and one more, by the call that gives it
+abbrev pub number : BothOutcomes → List ℕ
+number o = numberLine (o .headed .number) (o .headed .field)
 
-abbrev pub audio : Outcome → List ℕ
-audio o = number o ++ audioLine (o .given .audio) (o .given .uri)
+abbrev pub audio : BothOutcomes → List ℕ
+audio o = numberLine (o .worded .number) (o .worded .field) ++ audioLine (o .worded .given .audio) (o .worded .given .uri)
 
-abbrev pub carry : Outcome → List ℕ
-carry o = number o ++ carryLine (o .given .carry)
+abbrev pub carry : BothOutcomes → List ℕ
+carry o = number o ++ carryLine (o .headed .given .carry)
 
 -- refused: the number and the field, and no more
 abbrev pub refusedLine : List ℕ → String → WorkedRow
