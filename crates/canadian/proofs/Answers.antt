@@ -1,7 +1,6 @@
 -- What the Canadian mode returns, whatever it is lent.
 --     canadian-small     every part of it fits a few bits
 --     canadian-refused   a refusal has its number and its field, and nothing else
---     field-beside       a field only beside number 7
 --     canadian-gives     after 0, all that the message gives
 use Prim.Native.Nat.{ℕ}
 use mathlib.Core.Path.{_≡_, refl}
@@ -11,7 +10,7 @@ use borrow.Author.Tests.{eqb-true, eqb-false}
 use lib.Dec.{eqb}
 use Rattle.octets.proofs.Tests.{either-way}
 use Rattle.message.specs.WorkingMessage.{messageSays, infoIn}
-use Rattle.leaves.proofs.Fits.{audio-number, audio-fits, number-small, field-small, field-zero}
+use Rattle.leaves.proofs.Fits.{audio-number, audio-fits, number-small, field-small}
 use Rattle.outputs.specs.Outputs.{TextOutcome, textAnswerOf}
 use Rattle.outputs.specs.WorkingOutputs.{roomyText, textRefused}
 use Rattle.outputs.proofs.Answers.{SmallText, alone-small}
@@ -52,13 +51,6 @@ module _ (s : List ℕ) (t u : ℕ) where
   pub canadian-refused : (canadianOf s t u .number ≡ 0 → ⊥) → canadianOf s t u ≡ textRefused (canadianOf s t u .number) (canadianOf s t u .field)
   canadian-refused =
       outcome-holds (λ (o : TextOutcome). (o .number ≡ 0 → ⊥) → o ≡ textRefused (o .number) (o .field)) (λ e. refl) (λ z e. refl) (λ z e. refl) (λ z e. absurd (e refl))
-
-  pub field-beside : (canadianOf s t u .number ≡ 7 → ⊥) → canadianOf s t u .field ≡ 0
-  field-beside =
-      outcome-holds (λ (o : TextOutcome). (o .number ≡ 7 → ⊥) → o .field ≡ 0) (λ e. refl) (λ z. field-zero s) (λ z e. none z) (λ z e. none z)
-    where
-      none : messageSays s .number ≡ 0 → messageSays s .field ≡ 0
-      none z = field-zero s (λ e. omega arith)
 
   -- after 0 the message passed 4 to 9, and gives what it has
   pub canadian-gives : canadianOf s t u .number ≡ 0 → (messageSays s .number ≡ 0) × (canadianOf s t u .given ≡ canadianGiven s (messageSays s))

@@ -3,9 +3,8 @@
 --     alerted-holds, judged-holds     what holds of each answer
 --     passed                          one that answers 0 passed 4 to 10
 --     field-kept                      the field of the message read
---     field-alone                     a field only beside number 7
 use Prim.Native.Nat.{ℕ, _≤_}
-use mathlib.Core.Path.{_≡_, refl, _∙_}
+use mathlib.Core.Path.{_≡_, refl}
 use mathlib.Core.Bool.{Bool, true, false}
 use mathlib.Core.List.{List}
 use native.Mathlib.Omega.{arith}
@@ -66,16 +65,3 @@ number-small s =
 
 pub field-small : (s : List ℕ) → judgedOf s .field ≤ 7
 field-small s = rw (field-kept s (messageSays s)) (fits.field-small s)
-
-pub field-alone : (s : List ℕ) → (judgedOf s .number ≡ 7 → ⊥) → judgedOf s .field ≡ 0
-field-alone s h = field-kept s m ∙ fits.field-zero s (λ e. h (seven e))
-  where
-    m : Message
-    m = messageSays s
-
-    seven : m .number ≡ 7 → judgedOf s .number ≡ 7
-    seven e =
-        judged-holds s m (λ (j : Judged). j .number ≡ 7) (λ q. e)
-        (λ q. absurd (omega (arith, e, eqb-true (m .number) 0 q)))
-        (λ q. absurd (omega (arith, e, eqb-true (m .number) 0 q)))
-        (λ q. absurd (omega (arith, e, eqb-true (m .number) 0 q)))

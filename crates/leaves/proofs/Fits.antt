@@ -3,7 +3,6 @@
 --     audio-number, audio-fits     a number to 3, and where it is not 0 a uri of 1 to 1,024 bytes
 --     sent-in                      an instant of 2000 to 2099, and 0 after a refusal
 --     number-small, field-small    a number to 9 and a field to 7
---     field-zero                   a field only beside number 7
 use Prim.Native.Nat.{ℕ, suc, zero, _+_, _≤_, _<_}
 use mathlib.Core.Path.{_≡_, refl, _∙_}
 use mathlib.Core.Bool.{Bool, true, false, _&&_, not}
@@ -212,33 +211,23 @@ lowest-most (false ∷ bs) = go (lowest bs) (lowest-most bs)
     go zero h = omega arith
     go (suc n) h = omega arith
 
-record NumberFits (number field : ℕ) : Type 0 where
-  pub small : number ≤ 9
-  pub seven : (number ≡ 7 → ⊥) → field ≡ 0
-
-number-fits : (field status scope : ℕ) (t : MsgType) → NumberFits (numberWith field status scope t) field
+number-fits : (field status scope : ℕ) (t : MsgType) → numberWith field status scope t ≤ 9
 unfolding numberWith
 number-fits field status scope t =
     either-way Fit (eqb field 0) _ _
-    (λ q. either-way Fit (eqb status 1 && eqb scope 1) _ _
-    (λ x. either-way Fit (isAckOrError t) _ _ (λ y. beside 9 q (omega arith)) (λ y. beside 0 q (omega arith)))
-    (λ x. beside 8 q (omega arith)))
-    (λ q. record { small = omega arith; seven = λ n. absurd (n refl) })
+    (λ _. either-way Fit (eqb status 1 && eqb scope 1) _ _
+    (λ _. either-way Fit (isAckOrError t) _ _ (λ _. omega arith) (λ _. omega arith))
+    (λ _. omega arith))
+    (λ _. omega arith)
   where
     Fit : ℕ → Type 0
-    Fit n = NumberFits n field
-
-    beside : (n : ℕ) → eqb field 0 ≡ true → n ≤ 9 → Fit n
-    beside n q h = record { small = h; seven = λ x. eqb-true field 0 q }
-
-number-holds : (s : List ℕ) → NumberFits (messageSays s .number) (messageSays s .field)
-unfolding judged
-number-holds s =
-    message-holds s (λ (m : Message). NumberFits (m .number) (m .field)) (λ n k l. record { small = omega arith; seven = λ x. refl })
-    (λ p t. let a = alertOf s p t in number-fits (fieldOf s a) (statusOf s a) (scopeOf s a) (msgTypeOf s a))
+    Fit n = n ≤ 9
 
 pub number-small : (s : List ℕ) → messageSays s .number ≤ 9
-number-small s = number-holds s .small
+unfolding judged
+number-small s =
+    message-holds s (λ (m : Message). m .number ≤ 9) (λ n k l. omega arith)
+    (λ p t. let a = alertOf s p t in number-fits (fieldOf s a) (statusOf s a) (scopeOf s a) (msgTypeOf s a))
 
 field-most : (s : List ℕ) (a : Alert) → fieldOf s a ≤ 7
 field-most s a = lowest-most (faultsWith s a (timed s (sentLeaf a)) (statusOf s a) (msgTypeOf s a) (scopeOf s a))
@@ -246,7 +235,3 @@ field-most s a = lowest-most (faultsWith s a (timed s (sentLeaf a)) (statusOf s 
 pub field-small : (s : List ℕ) → messageSays s .field ≤ 7
 unfolding judged
 field-small s = message-holds s (λ (m : Message). m .field ≤ 7) (λ n k l. omega arith) (λ p t. field-most s (alertOf s p t))
-
--- a field is answered only beside number 7
-pub field-zero : (s : List ℕ) → (messageSays s .number ≡ 7 → ⊥) → messageSays s .field ≡ 0
-field-zero s = number-holds s .seven
