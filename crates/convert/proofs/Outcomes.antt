@@ -58,7 +58,6 @@ untouched o r out n f e h = (h ∙ ap headerAnswerOf (sym e), rw e)
 
 pub record Ready (s station : List ℕ) (j : Judged) : Type 0 where
   pub named : stationOk station ≡ true
-  pub judged : j ≡ judgedOf s
   pub body : bodyOk (j .body) ≡ true
   pub fits : UriFits (uriIn s (infoIn (j .message) .audio))
 
@@ -71,7 +70,6 @@ ready s station j is e q = go (stationOk station) refl
         let judged : j ≡ judgedOf s = rw b at is in
         rw judged (record {
           named = b;
-          judged = refl;
           body = body-ok s (rw judged at e) (rw judged at q);
           fits = rw (message-kept s (messageSays s)) (uri-fits s (infoIn (messageSays s) .audio) (audio-fits s));
         })

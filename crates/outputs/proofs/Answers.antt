@@ -1,4 +1,4 @@
--- What a call answers that gives text and audio and no header.
+-- What a call answers that gives text and audio.
 --     Answers, untouched          an answer and both outputs at exit, as the outcome has them; where nothing is given each output is as it was
 --     SmallText, alone-small      every part of it fits a few bits
 use Prim.Native.Nat.{ℕ, _≤_}

@@ -1,4 +1,4 @@
--- A call that gives something of a message: everything that it answers and writes. A call that gives text and audio and no header.
+-- Everything that a call answers and writes that gives something of a message; and of one that gives text and audio.
 use Prim.Native.Nat.{ℕ}
 use mathlib.Core.List.{List, []}
 use lib.ListN.{length}

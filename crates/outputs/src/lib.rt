@@ -1,4 +1,4 @@
-// Text and audio, which a call gives with a header or alone: their lent outputs, and what a call answers that gives no header.
+// Text and audio, which a call gives in either mode: their lent outputs, and what it answers.
 use reads::Audio;
 ghost use mathlib.Core.Path.{_≡_};
 ghost use Prim.Native.Nat.{_≤_};
@@ -7,7 +7,7 @@ ghost use lib.Seq.{sets};
 ghost use Rattle.outputs.specs.Outputs.{textAnswerOf};
 ghost use Rattle.outputs.specs.WorkingOutputs.{roomyText, uriIn, UriFits, textRefused};
 
-// What a call answers that gives text and audio and no header: the number and the field; audio (0 none, 1 mp3, 2 wav, 3 stream); how long uri
+// What a call answers that gives text and audio: the number and the field; audio (0 none, 1 mp3, 2 wav, 3 stream); how long uri
 // and text are.
 pub struct TextAudio {
     pub number: u32,
