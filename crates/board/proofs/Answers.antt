@@ -24,7 +24,6 @@ use Rattle.ledger.proofs.Sorts.{insert-new, insert-length, insert_all-grows}
 use Rattle.ledger.proofs.Dues.{in-due}
 use Rattle.slots.specs.WorkingSlots.{rec, flat}
 use Rattle.slots.specs.Slots.{recs}
-use Rattle.dues.proofs.Finds.{Found, none, found, find, start-due, due-most}
 use Rattle.board.specs.declared.Listed.{Listed}
 use Rattle.board.specs.declared.Rows.{Rows}
 use Rattle.board.specs.Rules.{board_of}
@@ -32,6 +31,7 @@ use Rattle.board.specs.WorkingRules.{board_ok, encode, added}
 use Rattle.board.specs.WorkingCalls.{offer_refused, offer_to, offer_of, hand_refused, hand_to, hand_of, list_refused, list_to, list_of}
 use Rattle.board.specs.Calls.{Listing}
 use Rattle.board.proofs.Boards.{board-recs, board-within, kept-rules, encoded}
+use Rattle.board.proofs.Finds.{Found, none, found, find, start-due, due-most}
 
 -- ---- an offer
 

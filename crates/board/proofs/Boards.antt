@@ -9,21 +9,19 @@ use mathlib.Core.Logic.{inl, inr}
 use mathlib.Core.List.{List, [], ◌∷◌, ◌++◌, append-nil}
 use native.Mathlib.Nat.{le_refl, add-zero, not-suc-le-zero, le_of_suc-le-suc}
 use native.Mathlib.Omega.{arith}
-use lib.Dec.{eqb, leb}
+use lib.Dec.{eqb}
 use lib.ListN.{length, get_or, take, drop, replicate, length-append, length-replicate, length-drop, drop_of_length-le, take-append-drop}
 use lib.Seq.{drop-drop, drop_at, take_all}
-use borrow.Author.Tests.{eq-eqb, ne_eqb, eqb-true, le-leb, leb-true}
+use borrow.Author.Tests.{eq-eqb, ne_eqb, eqb-true}
 use Rattle.octets.specs.declared.Order.{Order}
 use Rattle.octets.specs.Bytes.{pick, every, between}
 use Rattle.octets.specs.Order.{cmp, choose}
 use Rattle.octets.proofs.Tests.{each_of, every_of, one-fails, every-step, every-stop, every-none, every-right, between-low, between-high, between_is}
 use Rattle.octets.proofs.Everys.{last-decides}
-use Rattle.dated.specs.Dated.{zeros}
-use Rattle.records.specs.Record.{kind, record_ok}
+use Rattle.records.specs.Record.{kind, zeros, record_ok}
 use Rattle.records.proofs.Records.{record-long, record-kind}
-use Rattle.dated.proofs.Zeros.{zeros-made, zeros-are}
+use Rattle.records.proofs.ZeroFill.{zeros-made, zeros-are}
 use Rattle.ledger.specs.Sorted.{In, Sorted, ascending}
-use Rattle.ledger.specs.WorkingBoard.{kept_in}
 use Rattle.ledger.proofs.Sorts.{ascending-sorted, sorted-ascending, every_in, in-every}
 use Rattle.slots.specs.WorkingSlots.{rec, flat}
 use Rattle.slots.specs.Slots.{recs}
@@ -116,38 +114,26 @@ unfolding board_ok
 board-broken i s h = sym (one-fails i (board_tests s) h)
 
 pub board-rest : (s : List ℕ) (n : ℕ) (z : Bool) → n ≡ length (board_of s) → 384 ≤ length s → length s ≤ 65280 → length s % 384 ≡ 0
-    → true ≡ ascending (recs n s) → true ≡ every record_ok (recs n s) → length (kept_in (recs n s)) ≤ 1 → z ≡ zeros (drop (n * 384) s) → z ≡ board_ok s
+    → true ≡ ascending (recs n s) → true ≡ every record_ok (recs n s) → z ≡ zeros (drop (n * 384) s) → z ≡ board_ok s
 unfolding board_ok
-board-rest s n z is low high whole a r k e =
+board-rest s n z is low high whole a r e =
     e
     ∙ ap (λ (k : ℕ). zeros (drop (k * 384) s)) is
     ∙ sym (
-    last-decides (between 384 65280 (length s) ∷ eqb (length s % 384) 0 ∷ ascending (board_of s) ∷ every record_ok (board_of s) ∷ leb (length (kept_in (board_of s))) 1 ∷ []) (zeros (drop (length (board_of s) * 384) s)) (
-      between_is 384 65280 (length s) low high,
-      (
-        eq-eqb (length s % 384) 0 whole,
-        (
-          ap ascending (sym (board-recs s n is)) ∙ sym a,
-          (
-            ap (every record_ok) (sym (board-recs s n is)) ∙ sym r,
-            (ap (λ (b : List (List ℕ)). leb (length (kept_in b)) 1) (sym (board-recs s n is)) ∙ le-leb (length (kept_in (recs n s))) 1 k, tt),
-          ),
-        ),
-      ),
-    ))
+    last-decides (between 384 65280 (length s) ∷ eqb (length s % 384) 0 ∷ ascending (board_of s) ∷ every record_ok (board_of s) ∷ []) (zeros (drop (length (board_of s) * 384) s))
+    (between_is 384 65280 (length s) low high, (eq-eqb (length s % 384) 0 whole, (ap ascending (sym (board-recs s n is)) ∙ sym a, (ap (every record_ok) (sym (board-recs s n is)) ∙ sym r, tt)))))
 
 -- ---- what the rules say
 
-pub record Rules (s : List ℕ) : Type 0 where
+pub record Kept (s : List ℕ) : Type 0 where
   pub low : 384 ≤ length s
   pub high : length s ≤ 65280
   pub whole : length s % 384 ≡ 0
   pub order : Sorted (board_of s)
   pub each : Records (board_of s)
-  pub single : length (kept_in (board_of s)) ≤ 1
   pub rest : zeros (drop (length (board_of s) * 384) s) ≡ true
 
-pub kept-rules : (s : List ℕ) → board_ok s ≡ true → Rules s
+pub kept-rules : (s : List ℕ) → board_ok s ≡ true → Kept s
 unfolding board_ok
 kept-rules s h =
     let w = each_of (board_tests s) h in
@@ -157,8 +143,7 @@ kept-rules s h =
       whole = eqb-true (length s % 384) 0 w.1.0;
       order = ascending-sorted (board_of s) w.1.1.0;
       each = every_in record_ok (board_of s) w.1.1.1.0;
-      single = leb-true (length (kept_in (board_of s))) 1 w.1.1.1.1.0;
-      rest = w.1.1.1.1.1.0;
+      rest = w.1.1.1.1.0;
     }
 
 -- ---- a board is its filled records and zeros
@@ -205,9 +190,9 @@ board-bytes s h =
     sym (take-append-drop (length (board_of s) * 384) s)
     ∙ ap₂ ◌++◌ (sym (flat-all (length (board_of s)) s) ∙ ap flat (board-recs s (length (board_of s)) refl)) (zeros-are (drop (length (board_of s) * 384) s) (length s - length (board_of s) * 384) (length-drop (length (board_of s) * 384) s) (kept-rules s h).rest)
 
-pub encode-ok : (n : ℕ) (b : List (List ℕ)) → 384 ≤ n → n ≤ 65280 → n % 384 ≡ 0 → Sorted b → Records b → length (kept_in b) ≤ 1 → length b * 384 ≤ n → board_ok (encode n b) ≡ true
+pub encode-ok : (n : ℕ) (b : List (List ℕ)) → 384 ≤ n → n ≤ 65280 → n % 384 ≡ 0 → Sorted b → Records b → length b * 384 ≤ n → board_ok (encode n b) ≡ true
 unfolding board_ok
-encode-ok n b low high whole s w one h =
+encode-ok n b low high whole s w h =
     let is : board_of (encode n b) ≡ b = board-encode n b w h whole in
     let l : length (encode n b) ≡ n = encode-long n b w h in
     every_of (board_tests (encode n b)) (
@@ -218,10 +203,7 @@ encode-ok n b low high whole s w one h =
           ap ascending is ∙ sorted-ascending b s,
           (
             ap (every record_ok) is ∙ in-every record_ok b w,
-            (
-              ap (λ (x : List (List ℕ)). leb (length (kept_in x)) 1) is ∙ le-leb (length (kept_in b)) 1 one,
-              (ap (λ (x : List (List ℕ)). zeros (drop (length x * 384) (encode n b))) is ∙ rest, tt),
-            ),
+            (ap (λ (x : List (List ℕ)). zeros (drop (length x * 384) (encode n b))) is ∙ rest, tt),
           ),
         ),
       ),

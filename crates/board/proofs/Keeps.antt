@@ -18,10 +18,9 @@ use Rattle.records.specs.Record.{kind, carried, aired, record_ok}
 use Rattle.records.proofs.Records.{kind-aired}
 use Rattle.records.proofs.Carried.{airs-ok}
 use Rattle.ledger.specs.Sorted.{In, insert, insert_all}
-use Rattle.ledger.specs.WorkingBoard.{live, due, Due, index_of, kept_in, After, hand_out_of, hand_out}
+use Rattle.ledger.specs.WorkingBoard.{live, due, Due, index_of, After, hand_out_of, hand_out}
 use Rattle.ledger.proofs.Sorts.{in_insert, in-insert_all, insert-sorted, insert_all-sorted, insert-behind}
 use Rattle.ledger.proofs.Dues.{in-due, live-is, in-headers, later-kind}
-use Rattle.ledger.proofs.Kept.{kept-insert, kept-insert_all}
 use Rattle.ledger.proofs.Scans.{carries-is, index-get}
 use Rattle.board.specs.WorkingRules.{Records, board_ok, encode}
 use Rattle.board.specs.Rules.{board_of}
@@ -34,7 +33,7 @@ use Rattle.board.proofs.Answers.{offer-to, hand-to}
 -- ---- other records in the place of a board's own
 
 module _ (s : List ℕ) (ok : board_ok s ≡ true) (c : List (List ℕ)) (w : Records c) (room : length c ≤ length s / 384) where
-  pub fits : length c * 384 ≤ length s
+  fits : length c * 384 ≤ length s
   fits = omega (arith, (kept-rules s ok).whole)
 
   pub put-long : length (encode (length s) c) ≡ length s
@@ -65,13 +64,12 @@ module _ (s : List ℕ) (rs : List (List ℕ)) (ok : board_ok s ≡ true) (w : R
   with-them : Records (insert_all rs (board_of s))
   with-them r m = ⊎_elim (λ k. w r k) (λ k. (kept-rules s ok).each r k) ((in-insert_all r rs (board_of s)).0 m)
 
-  -- where none of them is a kept time
-  pub offer-keeps : ((r : List ℕ) → In r rs → kind r ≡ 4 → ⊥) → board_ok (offer_of s rs).bytes ≡ true
-  offer-keeps no-time = go (offer-is s rs ok)
+  pub offer-keeps : board_ok (offer_of s rs).bytes ≡ true
+  offer-keeps = go (offer-is s rs ok)
     where
       go : Offer s rs → board_ok (offer_of s rs).bytes ≡ true
       go (full h e) = ap (λ (x : Offering). board_ok x.bytes) e ∙ ok
-      go (taken h e) = ap (λ (x : Offering). board_ok x.bytes) e ∙ encode-ok (length s) (insert_all rs (board_of s)) (kept-rules s ok).low (kept-rules s ok).high (kept-rules s ok).whole (insert_all-sorted rs (board_of s) (kept-rules s ok).order) with-them (omega (arith, (kept-rules s ok).single, ap length (kept-insert_all rs (board_of s) no-time))) (fits s ok (insert_all rs (board_of s)) with-them h)
+      go (taken h e) = ap (λ (x : Offering). board_ok x.bytes) e ∙ encode-ok (length s) (insert_all rs (board_of s)) (kept-rules s ok).low (kept-rules s ok).high (kept-rules s ok).whole (insert_all-sorted rs (board_of s) (kept-rules s ok).order) with-them (fits s ok (insert_all rs (board_of s)) with-them h)
 
   pub offer-long : length (offer_of s rs).bytes ≡ length s
   offer-long = go (offer-is s rs ok)
@@ -129,16 +127,13 @@ module _ (s : List ℕ) (ok : board_ok s ≡ true) where
   with_it : (h : List ℕ) (hs : List (List ℕ)) → due (board_of s) ≡ h ∷ hs → Records (insert (aired h) (board_of s))
   with_it h hs f r m = ⊎_elim (λ p. subst (λ (x : List ℕ). record_ok x ≡ true) (sym p) (airs h (is-due h hs f))) (λ k. (kept-rules s ok).each r k) ((in_insert r (aired h) (board_of s)).0 m)
 
-  with-it-single : (h : List ℕ) → length (kept_in (insert (aired h) (board_of s))) ≤ 1
-  with-it-single h = omega (arith, (kept-rules s ok).single, ap length (kept-insert (aired h) (board_of s) (λ p. let z = sym (kind-aired h) ∙ p in omega arith)))
-
   pub hand-out-keeps : board_ok (hand_of s).bytes ≡ true
   hand-out-keeps = go (hand-is s ok)
     where
       go : Hand s → board_ok (hand_of s).bytes ≡ true
       go (nothing f e) = ap (λ (x : Handing). board_ok x.bytes) e ∙ ok
       go (full h hs f l e) = ap (λ (x : Handing). board_ok x.bytes) e ∙ ok
-      go (given h hs f l e) = ap (λ (x : Handing). board_ok x.bytes) e ∙ encode-ok (length s) (insert (aired h) (board_of s)) (kept-rules s ok).low (kept-rules s ok).high (kept-rules s ok).whole (insert-sorted (aired h) (board_of s) (kept-rules s ok).order) (with_it h hs f) (with-it-single h) (fits s ok (insert (aired h) (board_of s)) (with_it h hs f) l)
+      go (given h hs f l e) = ap (λ (x : Handing). board_ok x.bytes) e ∙ encode-ok (length s) (insert (aired h) (board_of s)) (kept-rules s ok).low (kept-rules s ok).high (kept-rules s ok).whole (insert-sorted (aired h) (board_of s) (kept-rules s ok).order) (with_it h hs f) (fits s ok (insert (aired h) (board_of s)) (with_it h hs f) l)
 
   pub hand-long : length (hand_of s).bytes ≡ length s
   hand-long = go (hand-is s ok)

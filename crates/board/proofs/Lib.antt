@@ -1,9 +1,7 @@
 pub mod Boards
-pub mod DueRows
-pub mod Closing
+pub mod Finds
 pub mod Answers
 pub mod Fills
 pub mod Walks
 pub mod Keeps
-pub mod Collects
 pub mod Demand3

@@ -1,9 +1,8 @@
--- A hand-out, the list and a collection: all that each answers, and what it leaves in the lent bytes and rows.
+-- A hand-out and the list: all that each answers, and what it leaves in the lent bytes and rows.
 use Rattle.std.specs.Prelude.{ℕ, List}
 use Rattle.ledger.specs.declared.Row.{Row}
 use Rattle.board.specs.declared.Handed.{Handed}
 use Rattle.board.specs.declared.Listed.{Listed}
-use Rattle.board.specs.declared.Collected.{Collected}
 
 -- ---- a hand-out: 1 the board, 16 nothing due, 15 no empty record
 
@@ -17,9 +16,3 @@ pub record Handing : Type 0 where
 pub record Listing : Type 0 where
   pub answer : Listed
   pub rows : List Row
-
--- ---- a collection: 1 the board, 19 the time, 15 no empty record for the first kept time
-
-pub record Collecting : Type 0 where
-  pub answer : Collected
-  pub bytes : List ℕ

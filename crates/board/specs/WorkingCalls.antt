@@ -1,14 +1,14 @@
--- What offers, hand-outs, lists and collections answer and do, as definitions by which the code is specified.
+-- What offers, hand-outs and lists answer and do, as definitions by which the code is specified.
 use Rattle.std.specs.Prelude.{ℕ, ◌*◌, ◌-◌, List, [], ◌∷◌, leb, length, replicate}
 use Rattle.octets.specs.Bytes.{pick}
 use Rattle.records.specs.Record.{aired}
 use Rattle.ledger.specs.Sorted.{insert, insert_all}
 use Rattle.ledger.specs.declared.Row.{Row}
-use Rattle.ledger.specs.WorkingBoard.{live, due, index_of, rows_of, collected, dropped, timely}
+use Rattle.ledger.specs.WorkingBoard.{live, due, index_of, rows_of}
 use Rattle.board.specs.Rules.{board_of}
 use Rattle.board.specs.WorkingRules.{board_ok, encode}
 use Rattle.board.specs.declared.Added.{Added}
-use Rattle.board.specs.Calls.{Handing, Listing, Collecting}
+use Rattle.board.specs.Calls.{Handing, Listing}
 
 -- ---- an offer of the records rs: 1 the board, 15 too few empty records
 
@@ -63,20 +63,3 @@ blank = record { index = 0; count = 0 }
 -- rows before anything is written to them
 abbrev pub blanks : List Row
 blanks = replicate 170 blank
-
--- ---- a collection at t: 1 the board, 19 t is no time of the board or is below the kept one, 15 no empty record for the first kept time
-
-abbrev pub collect_refused : ℕ → List ℕ → Collecting
-collect_refused number s = record { answer = record { number = number; dropped = 0 }; bytes = s }
-
--- what is over is dropped from b, and t is kept
-abbrev pub collect_to : List ℕ → ℕ → List (List ℕ) → Collecting
-collect_to s t b =
-    pick (timely t b)
-    (pick (leb (length (collected t b) * 384) (length s))
-    (record { answer = record { number = 0; dropped = dropped t b }; bytes = encode (length s) (collected t b) })
-    (collect_refused 15 s))
-    (collect_refused 19 s)
-
-unfoldable pub collect_of : List ℕ → ℕ → Collecting
-collect_of s t = pick (board_ok s) (collect_to s t (board_of s)) (collect_refused 1 s)

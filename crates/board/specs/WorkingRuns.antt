@@ -3,10 +3,10 @@ use Rattle.std.specs.Prelude.{ℕ, zero, suc, ◌≡◌, true, List, [], ◌∷�
 use Rattle.octets.specs.Bytes.{pick}
 use Rattle.records.specs.Record.{carried}
 use Rattle.ledger.specs.Sorted.{In}
-use Rattle.ledger.specs.WorkingBoard.{Alert, records, taking, Call, offered, handed_out, collected_at}
+use Rattle.ledger.specs.WorkingBoard.{Alert, records, Call, offered, handed_out}
 use Rattle.board.specs.WorkingRules.{Records, board_ok}
 use Rattle.board.specs.Rules.{board_of}
-use Rattle.board.specs.WorkingCalls.{Offering, offer_of, hand_of, collect_of}
+use Rattle.board.specs.WorkingCalls.{offer_of, hand_of}
 
 -- a board that keeps the rules and has no filled record
 pub record Empty (s : List ℕ) : Type 0 where
@@ -20,14 +20,10 @@ Ruled a = Records (records a)
 abbrev pub AllRuled : List Alert → Type 0
 AllRuled l = (a : Alert) → In a l → Ruled a
 
--- an offer of what the board takes of an alert
-abbrev pub offer_taking : List ℕ → Alert → Offering
-offer_taking s a = offer_of s (taking (board_of s) a)
-
 -- offers of these alerts, one after the other, are all taken
 abbrev pub AllTaken : List Alert → List ℕ → Type 0
 AllTaken [] s = Unit {0}
-AllTaken (a ∷ l) s = ((offer_taking s a).answer.number ≡ 0) × AllTaken l (offer_taking s a).bytes
+AllTaken (a ∷ l) s = ((offer_of s (records a)).answer.number ≡ 0) × AllTaken l (offer_of s (records a)).bytes
 
 -- the header that a hand-out gives: that of the notice at the index answered; none where it is refused
 abbrev pub given_by : List ℕ → List (List ℕ)
@@ -38,23 +34,20 @@ abbrev pub hands_from : ℕ → List ℕ → List (List ℕ)
 hands_from zero s = []
 hands_from (suc n) s = given_by s ++ hands_from n (hand_of s).bytes
 
--- ---- any mixture of offers, hand-outs and collections
+-- ---- any mixture of offers and hand-outs
 
 -- the bytes after one call, the headers that it hands out, and the alert that it takes
 abbrev pub step_to : Call → List ℕ → List ℕ
-step_to (offered a) s = (offer_taking s a).bytes
+step_to (offered a) s = (offer_of s (records a)).bytes
 step_to handed_out s = (hand_of s).bytes
-step_to (collected_at t) s = (collect_of s t).bytes
 
 abbrev pub step_gives : Call → List ℕ → List (List ℕ)
 step_gives (offered a) s = []
 step_gives handed_out s = given_by s
-step_gives (collected_at t) s = []
 
 abbrev pub step_takes : Call → List ℕ → List Alert
-step_takes (offered a) s = pick (eqb (offer_taking s a).answer.number 0) (a ∷ []) []
+step_takes (offered a) s = pick (eqb (offer_of s (records a)).answer.number 0) (a ∷ []) []
 step_takes handed_out s = []
-step_takes (collected_at t) s = []
 
 -- the bytes after a run of calls
 abbrev pub after_calls : List Call → List ℕ → List ℕ

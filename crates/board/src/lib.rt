@@ -1,23 +1,25 @@
-// The board in lent bytes: its rules, an offer of records, the hand-out of the first due header, the list of the due headers, and the collection of what is over.
-ghost use Rattle.std.specs.Prelude.{◌≡◌, true, ◌+◌, ◌*◌, ◌≤◌, ◌<◌, leb, length, take};
+// The board in lent bytes: its rules, an offer of records, the hand-out of the first due header, and the list of the due headers.
+ghost use Rattle.std.specs.Prelude.{◌≡◌, false, [], ◌+◌, ◌*◌, ◌≤◌, ◌<◌, leb, length, take};
 ghost use Rattle.std.proofs.lemmas.List.Edits.{sets};
 ghost use Rattle.octets.specs.Bytes.{pick, every};
-ghost use Rattle.records.specs.Record.{record_ok, carried, aired, kept};
+ghost use Rattle.records.specs.Record.{record_ok, carried, aired};
 ghost use Rattle.ledger.specs.Sorted.{ascending};
-ghost use Rattle.ledger.specs.WorkingBoard.{live, carries, count_of, rows_of, stays, timely};
+ghost use Rattle.ledger.specs.WorkingBoard.{live, carries, count_of, rows_of};
+ghost use Rattle.ledger.specs.WorkingScan.{after, best_of};
 ghost use Rattle.slots.specs.WorkingSlots.{rec};
 ghost use Rattle.slots.specs.Slots.{recs};
-ghost use Rattle.slots.specs.WorkingMarks.{Marks};
 ghost use Rattle.board.specs.Rules.{board_of};
-ghost use Rattle.board.specs.WorkingRules.{Records, board_ok, added, closed_up};
-ghost use Rattle.board.specs.WorkingCalls.{offer_of, hand_of, list_refused, list_of, blanks, collect_of};
+ghost use Rattle.board.specs.WorkingRules.{board_ok, added};
+ghost use Rattle.board.specs.WorkingCalls.{offer_of, hand_of, list_refused, list_of, blanks};
+ghost use Rattle.board.specs.WorkingMarks.{Marks};
 
 use ledger::Row;
 use octets::Order;
 use records::Record;
-use slots::MOST;
 
-// The bytes of the most records that a board holds.
+// The most records that a board holds, and their bytes.
+const MOST: usize = 170;
+
 const BYTES: usize = 65280;
 
 // What an offer of records answers: how many were added.
@@ -46,13 +48,6 @@ pub struct Listed {
 pub struct Rows {
     pub answer: Listed,
     pub rows: [Row; MOST],
-}
-
-// What a collection answers: how many records were dropped.
-#[derive(Drop)]
-pub struct Collected {
-    pub number: u32,
-    pub dropped: usize,
 }
 
 // ---- the rules
@@ -126,11 +121,8 @@ fn keeps_rules(s: &[u8], n: usize) -> bool
     if !are_records(s, n) {
         return false;
     }
-    if 1 < slots::times_kept(s, n) {
-        return false;
-    }
     let at = n * Record::SIZE;
-    dated::are_zeros(&s[at..])
+    records::are_zeros(&s[at..])
 }
 
 // Whether a board keeps the rules.
@@ -170,7 +162,108 @@ pub fn offer_records(s: &mut [u8], batch: &[u8], m: usize) -> Added
     }
 }
 
+// ---- the due headers
+
+// Whether record i is a notice that no record withdraws, with a header that no record airs.
+fn is_live(s: &[u8], n: usize, i: usize) -> bool
+    requires { (n * 384 ≤ length s.now) × (i < n) }
+    ensures { result ≡ live (recs n s.now) (rec i s.now) }
+{
+    let at = i * Record::SIZE;
+    if s[at] != Record::NOTICE {
+        return false;
+    }
+    let from = at + Record::SENT;
+    let to = at + Record::HEADER;
+    let w = records::withdrawal_of(&s[from..to]);
+    if slots::holds(s, n, &w.bytes) {
+        return false;
+    }
+    let a = slots::aired_at(s, i);
+    !slots::holds(s, n, &a.bytes)
+}
+
+// Which of the first n records are live.
+fn live_marks(s: &[u8], n: usize) -> [bool; MOST]
+    requires { (n * 384 ≤ length s.now) × (n ≤ 170) }
+    ensures { Marks (live (recs n s.now)) (recs n s.now) result }
+{
+    let mut marks = [false; MOST];
+    let mut i: usize = 0;
+    while i < n {
+        marks[i] = is_live(s, n, i);
+        i += 1;
+    }
+    marks
+}
+
+// Whether record i is live, with a header that comes after `last`.
+fn comes_after(s: &[u8], n: usize, marks: &[bool; MOST], last: &[u8], i: usize) -> bool
+    requires { (n * 384 ≤ length s.now) × (n ≤ 170) × (i < n) × Marks (live (recs n s.now)) (recs n s.now) marks.now }
+    ensures { result ≡ after (recs n s.now) last.now (rec i s.now) }
+{
+    if !marks[i] {
+        return false;
+    }
+    match slots::compare_header(last, s, i) {
+        Order::Less => true,
+        Order::Same => false,
+        Order::More => false,
+    }
+}
+
+// The better of the best so far and record i. Where there is none yet, best is n.
+fn better(s: &[u8], n: usize, marks: &[bool; MOST], last: &[u8], best: usize, i: usize) -> usize
+    requires n_in_bounds { (n * 384 ≤ length s.now) × (n ≤ 170) × (i < n) × Marks (live (recs n s.now)) (recs n s.now) marks.now }
+    requires best_value { best ≡ best_of n (after (recs n s.now) last.now) (recs i s.now) }
+    ensures { result ≡ best_of n (after (recs n s.now) last.now) (recs (i + 1) s.now) }
+{
+    if !comes_after(s, n, marks, last, i) {
+        return best;
+    }
+    if best == n {
+        return i;
+    }
+    match slots::compare_headers(s, i, best) {
+        Order::Less => i,
+        Order::Same => best,
+        Order::More => best,
+    }
+}
+
+// The index of the smallest notice that makes the first due header after `last` due, or n where there is none.
+fn first_after(s: &[u8], n: usize, marks: &[bool; MOST], last: &[u8]) -> usize
+    requires { (n * 384 ≤ length s.now) × (n ≤ 170) × Marks (live (recs n s.now)) (recs n s.now) marks.now }
+    ensures { result ≡ best_of n (after (recs n s.now) last.now) (recs n s.now) }
+{
+    let mut best = n;
+    let mut i: usize = 0;
+    while i < n {
+        best = better(s, n, marks, last, best, i);
+        i += 1;
+    }
+    best
+}
+
+// The same for the first due header after that of record j.
+fn next_after(s: &[u8], n: usize, marks: &[bool; MOST], j: usize) -> usize
+    requires { (n * 384 ≤ length s.now) × (n ≤ 170) × (j < n) × Marks (live (recs n s.now)) (recs n s.now) marks.now }
+    ensures { result ≡ best_of n (after (recs n s.now) (carried (rec j s.now))) (recs n s.now) }
+{
+    let h = slots::header_at(s, j);
+    first_after(s, n, marks, &h)
+}
+
 // ---- the hand-out
+
+// The index of the smallest notice that makes the first due header due, or n where nothing is due.
+fn first_due(s: &[u8], n: usize) -> usize
+    requires { (n * 384 ≤ length s.now) × (n ≤ 170) }
+    ensures { result ≡ best_of n (after (recs n s.now) []) (recs n s.now) }
+{
+    let marks = live_marks(s, n);
+    first_after(s, n, &marks, &s[0..0])
+}
 
 // Adds the aired record of record j's header to the first n records.
 fn air(s: &mut [u8], n: usize, j: usize)
@@ -194,7 +287,7 @@ pub fn hand_out(s: &mut [u8]) -> Handed
             index: 0,
         };
     }
-    let j = dues::first_due(s, n);
+    let j = first_due(s, n);
     if j == n {
         return Handed {
             number: 16,
@@ -254,15 +347,15 @@ fn due_rows(s: &[u8], n: usize) -> Rows
     ensures rows_value { take result.answer.count result.rows ≡ rows_of (recs n s.now) }
     ensures count_bound { result.answer.count ≤ 170 }
 {
-    let marks = dues::live_marks(s, n);
+    let marks = live_marks(s, n);
     let mut rows = [Row { index: 0, count: 0 }; MOST];
     let mut k: usize = 0;
-    let mut j = dues::first_after(s, n, &marks, &s[0..0]);
+    let mut j = first_after(s, n, &marks, &s[0..0]);
     while j < n {
         let count = count_alike(s, n, &marks, j);
         rows[k] = Row { index: j, count };
         k += 1;
-        j = dues::next_after(s, n, &marks, j);
+        j = next_after(s, n, &marks, j);
     }
     let answer = Listed {
         number: 0,
@@ -335,94 +428,4 @@ pub fn list_rows(s: &[u8], room: usize) -> Rows
     let m = lent(room);
     let answer = list(s, &mut rows[..m]);
     Rows { answer, rows }
-}
-
-// ---- the collection
-
-// Whether t is a time of the board, and not below the one kept among the first n records.
-fn is_timely(s: &[u8], n: usize, t: u64) -> bool
-    requires { n * 384 ≤ length s.now }
-    ensures { result ≡ timely t (recs n s.now) }
-{
-    if records::SPAN as u64 <= t {
-        return false;
-    }
-    slots::outlasts(s, n, t + 1)
-}
-
-// Whether record i stays at t.
-fn stays_at(s: &[u8], i: usize, t: u64) -> bool
-    requires { ((i + 1) * 384 ≤ length s.now) × (record_ok (rec i s.now) ≡ true) }
-    ensures { result ≡ stays t (rec i s.now) }
-{
-    let at = i * Record::SIZE;
-    if s[at] == Record::KEPT {
-        return false;
-    }
-    t < records::over_at(slots::record_at(s, i))
-}
-
-// Which of the first n records stay at t.
-fn stay_marks(s: &[u8], n: usize, t: u64) -> [bool; MOST]
-    requires { (n * 384 ≤ length s.now) × (n ≤ 170) × Records (recs n s.now) }
-    ensures { Marks (stays t) (recs n s.now) result }
-{
-    let mut marks = [false; MOST];
-    let mut i: usize = 0;
-    while i < n {
-        marks[i] = stays_at(s, i, t);
-        i += 1;
-    }
-    marks
-}
-
-// Closes up those of the first n records that are marked, with zeros behind them.
-fn keep_marked(s: &mut [u8], n: usize, marks: &[bool; MOST])
-    requires { (n * 384 ≤ length s.old) × (n ≤ 170) }
-    ensures { s.new ≡ closed_up marks.now n s.old }
-{
-    let k = slots::close_up(s, n, marks);
-    slots::clear(s, k * Record::SIZE, n * Record::SIZE);
-}
-
-// Adds t as a kept time to the first n records.
-fn keep_time(s: &mut [u8], n: usize, t: u32)
-    requires { (n + 1) * 384 ≤ length s.old }
-    ensures { s.new ≡ added s.old n (kept t) }
-{
-    let r = Record::kept(t);
-    slots::add(s, n, &r.bytes);
-}
-
-// Drops what is over at t, closes up, and keeps t.
-pub fn collect(s: &mut [u8], t: u64) -> Collected
-    ensures value { result ≡ (collect_of s.old t).answer }
-    ensures s_after { s.new ≡ (collect_of s.old t).bytes }
-    ensures number_bound { (result.number ≤ 19) × (result.dropped ≤ 170) }
-{
-    let n = filled(s);
-    if !keeps_rules(s, n) {
-        return Collected {
-            number: 1,
-            dropped: 0,
-        };
-    }
-    if !is_timely(s, n, t) {
-        return Collected {
-            number: 19,
-            dropped: 0,
-        };
-    }
-    let marks = stay_marks(s, n, t);
-    let k = slots::count_marks(&marks, n);
-    if s.len() < (k + 1) * Record::SIZE {
-        return Collected {
-            number: 15,
-            dropped: 0,
-        };
-    }
-    let dropped = n - k - slots::times_kept(s, n);
-    keep_marked(s, n, &marks);
-    keep_time(s, k, t as u32);
-    Collected { number: 0, dropped }
 }

@@ -1,4 +1,4 @@
-// The case lines `offer`, `handout`, `list` and `collect`.
+// The case lines `offer`, `handout` and `list`.
 ghost use Rattle.std.specs.Prelude.{◌≤◌};
 
 use crate::lines::ROOM;
@@ -119,27 +119,4 @@ pub(crate) fn list(asked: &[u8], out: &mut [u8]) -> usize {
         return crate::lines::put(out, 0, b"?");
     }
     list_of(crate::lines::front(&board, b.len), cap as usize, out)
-}
-
-// ---- collect BOARD T
-
-fn collect_of(board: &mut [u8], t: u64, out: &mut [u8]) -> usize {
-    let c = board::collect(board, t);
-    let number = crate::lines::put_decimal(out, 0, c.number);
-    let dropped = crate::lines::put_spaced(out, number, small(c.dropped));
-    crate::lines::put_bytes(out, dropped, board)
-}
-
-pub(crate) fn collect(asked: &[u8], out: &mut [u8]) -> usize {
-    let time_at = crate::lines::next_field(asked, 0);
-    let t = crate::lines::time(crate::lines::last_field(asked, time_at));
-    if !t.ok {
-        return crate::lines::put(out, 0, b"?");
-    }
-    let mut board = [0u8; ROOM];
-    let b = crate::lines::unhex(crate::lines::field(asked, 0), &mut board);
-    if !b.ok {
-        return crate::lines::put(out, 0, b"?");
-    }
-    collect_of(crate::lines::front_of(&mut board, b.len), t.at, out)
 }

@@ -9,13 +9,6 @@ pub const ROOM: usize = 100000;
 // The longest output that a line lends.
 pub const LENT: usize = 65280;
 
-// A time in a board's seconds; not ok where the digits are none, or more than 18.
-#[derive(Drop)]
-pub struct Time {
-    pub ok: bool,
-    pub at: u64,
-}
-
 // How many bytes hexadecimal digits stand for; not ok where they are no such digits, or too many for the slice lent.
 #[derive(Drop)]
 pub struct Bytes {
@@ -147,36 +140,6 @@ pub(crate) fn decimal(t: &[u8]) -> Num {
         return Num::Bad;
     }
     octets::number(t, 0, n)
-}
-
-// No time.
-fn no_time() -> Time {
-    Time { ok: false, at: 0 }
-}
-
-// A time of 1 to 18 digits: the last nine, and those before them.
-pub(crate) fn time(t: &[u8]) -> Time {
-    let n = t.len();
-    if n < 10 {
-        let Num::Value(low) = decimal(t) else {
-            return no_time();
-        };
-        return Time {
-            ok: true,
-            at: low as u64,
-        };
-    }
-    let k = n - 9;
-    let Num::Value(high) = decimal(&t[..k]) else {
-        return no_time();
-    };
-    let Num::Value(low) = decimal(&t[k..]) else {
-        return no_time();
-    };
-    Time {
-        ok: true,
-        at: (high as u64) * 1000000000 + (low as u64),
-    }
 }
 
 // The length of an output that a line lends.

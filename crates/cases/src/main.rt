@@ -46,9 +46,6 @@ fn answer(line: &[u8], out: &mut [u8]) -> usize {
     if octets::equal(call, b"list") {
         return board_lines::list(asked, out);
     }
-    if octets::equal(call, b"collect") {
-        return board_lines::collect(asked, out);
-    }
     if octets::equal(call, b"program") {
         return convert_lines::program(asked, out);
     }

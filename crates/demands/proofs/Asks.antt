@@ -1,7 +1,7 @@
 -- Nothing is asked of a caller: every function that a user may call takes whatever bytes, lengths and numbers it is lent. Asked is the `requires` of the
 -- function's contract as the toolchain reads it, of lifetimes κs and arguments a. A proved function ends and does nothing undefined wherever what it asks is
 -- there, which by these theorems is always. One for each function of docs/PROMISES.md, of which a host in C calls
---     host-header-asks-nothing, host-text-asks-nothing, host-canadian-asks-nothing, host-read-asks-nothing, host-write-asks-nothing, host-offer-asks-nothing, host-hand-out-asks-nothing, host-collect-asks-nothing
+--     host-header-asks-nothing, host-text-asks-nothing, host-canadian-asks-nothing, host-read-asks-nothing, host-write-asks-nothing, host-offer-asks-nothing, host-hand-out-asks-nothing
 use Prim.Native.Nat.{ℕ}
 use seplogic.Ra.Ura.{Ura}
 use base.Logic.{SProp, ent}
@@ -22,11 +22,10 @@ use Rattle.canadian.proofs.convert.Reads as canadian
 use Rattle.convert.proofs.header.Reads as header
 use Rattle.convert.proofs.text.Reads as text
 use Rattle.records.proofs.is_record.Reads as is-record
-use Rattle.dated.proofs.are_zeros.Reads as are-zeros
+use Rattle.records.proofs.are_zeros.Reads as are-zeros
 use Rattle.board.proofs.is_board.Reads as is-board
 use Rattle.board.proofs.filled.Reads as filled
 use Rattle.board.proofs.hand_out.Reads as hand-out
-use Rattle.board.proofs.collect.Reads as collect
 use Rattle.board.specs.contracts.list as list
 use Rattle.board.proofs.list_rows.Reads as list-rows
 use Rattle.offers.proofs.offer.Reads as offer
@@ -38,7 +37,6 @@ use Rattle.stuiverhaag.proofs.stuiverhaag_read_header.Reads as host-read
 use Rattle.stuiverhaag.proofs.stuiverhaag_write_header.Reads as host-write
 use Rattle.stuiverhaag.proofs.stuiverhaag_offer.Reads as host-offer
 use Rattle.stuiverhaag.proofs.stuiverhaag_hand_out.Reads as host-hand-out
-use Rattle.stuiverhaag.proofs.stuiverhaag_collect.Reads as host-collect
 use Rattle.demands.proofs.Arguments.{Lifetimes, Lent, Slices, Rows, Named}
 
 -- ---- the calls for a host in C
@@ -63,9 +61,6 @@ host-offer-asks-nothing κs a = tt
 
 pub host-hand-out-asks-nothing : (κs : Lifetimes 1) (a : Slices 1) → host-hand-out.Asked κs a
 host-hand-out-asks-nothing κs a = tt
-
-pub host-collect-asks-nothing : (κs : Lifetimes 1) (a : Lent × (ℕ × Unit {0})) → host-collect.Asked κs a
-host-collect-asks-nothing κs a = tt
 
 -- ---- times and headers
 
@@ -126,9 +121,6 @@ offer-asks-nothing κs a = tt
 
 pub hand-out-asks-nothing : (κs : Lifetimes 1) (a : Slices 1) → hand-out.Asked κs a
 hand-out-asks-nothing κs a = tt
-
-pub collect-asks-nothing : (κs : Lifetimes 1) (a : Lent × (ℕ × Unit {0})) → collect.Asked κs a
-collect-asks-nothing κs a = tt
 
 -- Asked is not made of a contract with a slice of structs: in any model, what the list's `requires` says follows from whatever a caller has
 module _ {M : Type 1} {𝓤 : Ura M} (𝓛 : Logic 𝓤) (mem : Memory → SProp 𝓤) (run : Routine → Fun 𝓤) where

@@ -14,16 +14,14 @@ use Rattle.octets.specs.Bytes.{pick}
 use Rattle.octets.proofs.Tests.{each_of, every_of, between-low, between-high, between_is}
 use Rattle.ledger.specs.Sorted.{In, has, Sorted, insert, insert_all}
 use Rattle.ledger.proofs.Sorts.{in_insert, insert-sorted, insert-held, insert-new, has_in, has-not}
-use Rattle.board.specs.Rules.{board_of}
 use Rattle.board.specs.WorkingRules.{board_tests, board_ok}
 use Rattle.demands.specs.Board.{new_to}
 use Rattle.demands.specs.Numbers.{is_board}
-use Rattle.demands.proofs.KeptTimes.{kept_same}
 use Rattle.demands.proofs.Members.{both}
 
 pub board-same : (b : List ℕ) → is_board b ≡ board_ok b
 unfolding board_ok
-board-same b = rw (kept_same (board_of b)) (both _ (board_ok b)
+board-same b = both (is_board b) (board_ok b)
     (λ e. let w = each_of _ e in
     let low = between-low 1 170 (length b / 384) w.0 in
     let high = between-high 1 170 (length b / 384) w.0 in
@@ -32,7 +30,7 @@ board-same b = rw (kept_same (board_of b)) (both _ (board_ok b)
     (λ e. let w = each_of (board_tests b) e in
     let low = between-low 384 65280 (length b) w.0 in
     let high = between-high 384 65280 (length b) w.0 in
-    every_of _ (between_is 1 170 (length b / 384) (omega arith) (omega arith), w.1)))
+    every_of _ (between_is 1 170 (length b / 384) (omega arith) (omega arith), w.1))
 
 -- ---- what an insertion adds
 

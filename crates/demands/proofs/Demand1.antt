@@ -3,7 +3,7 @@ use Rattle.demands.specs.Calls.{library}
 use Rattle.demands.specs.Demands.{Demand1}
 use Rattle.demands.proofs.Conversions.{header-numbered, header-field, header_refused, text-numbered, text-field, text-refused, read-numbered, read-refused, write-numbered, write-refused}
 use Rattle.demands.proofs.Canadian.{canadian-numbered, canadian-field, canadian-refused}
-use Rattle.demands.proofs.Demand1Boards.{offer-numbered, offer-field, offer-refused, hand-out-numbered, hand-out-refused, list-numbered, list-refused, collect-numbered, collect-refused}
+use Rattle.demands.proofs.Demand1Boards.{offer-numbered, offer-field, offer-refused, hand-out-numbered, hand-out-refused, list-numbered, list-refused}
 
 pub demand-1 : Demand1 library
 demand-1 = record {
@@ -23,8 +23,6 @@ demand-1 = record {
   hand-out-refused = hand-out-refused;
   list-numbered = list-numbered;
   list-refused = list-refused;
-  collect-numbered = collect-numbered;
-  collect-refused = collect-refused;
   read-numbered = read-numbered;
   read-refused = read-refused;
   write-numbered = write-numbered;

@@ -2,19 +2,17 @@
 --     offer-numbered, offer-field, offer-refused
 --     hand-out-numbered, hand-out-refused
 --     list-numbered, list-refused
---     collect-numbered, collect-refused
-use Prim.Native.Nat.{ℕ, ◌+◌, ◌/◌, ◌≤◌}
-use mathlib.Core.Bool.{Bool, true, false, ◌||◌, not}
+use Prim.Native.Nat.{ℕ, ◌≤◌}
+use mathlib.Core.Bool.{Bool, true, false, not}
 use mathlib.Core.Path.{◌≡◌, refl, sym, ap, ◌∙◌}
 use mathlib.Core.List.{List, [], ◌∷◌, ◌++◌}
 use native.Mathlib.Omega.{arith}
 use borrow.Author.Tests.{ne_eqb, lt-ltb, le-ltb}
-use lib.Dec.{eqb, leb, ltb}
+use lib.Dec.{eqb, ltb}
 use lib.ListN.{length}
 use Rattle.octets.specs.Bytes.{pick, every}
 use Rattle.octets.proofs.Tests.{passed_over}
 use Rattle.judgement.specs.WorkingJudged.{judged_of}
-use Rattle.ledger.specs.WorkingBoard.{timely}
 use Rattle.board.specs.Rules.{board_of}
 use Rattle.board.specs.Calls as calls
 use Rattle.board.specs.WorkingCalls as working-calls
@@ -24,12 +22,11 @@ use Rattle.offers.specs.WorkingOffer.{message_offer}
 use Rattle.offers.specs.declared.Offered as offer
 use Rattle.told.specs.Values.{is_none}
 use Rattle.demands.specs.Calls.{library}
-use Rattle.demands.specs.Board.{some, kept_times, due_headers, survivors}
-use Rattle.demands.specs.Numbers.{NumberRow, row, lowest_in, Numbered, field_beside, taken_rows, is_board, empties_in, offer_rows, hand_out_rows, list_rows, collect_rows}
+use Rattle.demands.specs.Board.{due_headers}
+use Rattle.demands.specs.Numbers.{NumberRow, row, lowest_in, Numbered, field_beside, taken_rows, is_board, empties_in, offer_rows, hand_out_rows, list_rows}
 use Rattle.demands.proofs.Messages.{judged-number, judged-field}
 use Rattle.demands.proofs.Rows.{lowest-append, numbered}
-use Rattle.demands.proofs.KeptTimes.{late-same}
-use Rattle.demands.proofs.Outcomes.{news_of, Offered, offered, offer-cases, Handed, handed, hand-out-cases, Listed, listed, Collected, collected, collect-cases}
+use Rattle.demands.proofs.Outcomes.{news_of, Offered, offered, offer-cases, Handed, handed, hand-out-cases, Listed, listed}
 
 -- ---- an offer
 
@@ -133,29 +130,3 @@ module _ (b : List ℕ) (rows : ℕ) where
       go (Listed.bad _ e) = (ap (λ (o : calls.Listing). o.answer.count) e, ap (λ (o : calls.Listing). o.rows) e)
       go (Listed.short _ _ e) = (ap (λ (o : calls.Listing). o.answer.count) e, ap (λ (o : calls.Listing). o.rows) e)
       go (Listed.listing _ _ e) = absurd (n (ap (λ (o : calls.Listing). o.answer.number) e))
-
--- ---- a collection
-
-module _ (b : List ℕ) (t : ℕ) where
-  -- where it is in time or not
-  collect-asked : (ok in-time full : Bool) → is_board b ≡ ok → timely t (board_of b) ≡ in-time → ltb (length b / 384) (length (survivors t (board_of b)) + 1) ≡ full →
-      lowest_in (collect_rows b t) ≡ lowest_in (row 1 (not ok) ∷ row 19 (not in-time) ∷ row 15 full ∷ [])
-  collect-asked ok in-time full p q r = let l = late-same t (board_of b) ∙ ap not q in rw (p, l, r)
-
-  collect-number : Collected b t → (library.collecting b t).answer.number ≡ lowest_in (collect_rows b t)
-  unfolding lowest_in
-  collect-number (Collected.bad ok e) = ap (λ (o : calls.Collecting). o.answer.number) e ∙ sym (collect-asked false _ _ ok refl refl)
-  collect-number (Collected.late ok u e) = ap (λ (o : calls.Collecting). o.answer.number) e ∙ sym (collect-asked true false _ ok u refl)
-  collect-number (Collected.full ok u l e) =
-      ap (λ (o : calls.Collecting). o.answer.number) e ∙ sym (collect-asked true true true ok u (lt-ltb (length b / 384) (length (survivors t (board_of b)) + 1) l))
-  collect-number (Collected.made m) =
-      m.number ∙ sym (collect-asked true true false m.is-board m.in-time (le-ltb (length b / 384) (length (survivors t (board_of b)) + 1) m.room))
-
-  pub collect-numbered : Numbered (library.collecting b t).answer.number (collect_rows b t)
-  unfolding every
-  collect-numbered = numbered _ (collect_rows b t) refl (collect-number (collected b t))
-
-  pub collect-refused : ((library.collecting b t).answer.number ≡ 0 → ⊥) → ((library.collecting b t).answer.dropped ≡ 0) × ((library.collecting b t).bytes ≡ b)
-  collect-refused = collect-cases b t (λ (o : calls.Collecting). (o.answer.number ≡ 0 → ⊥) → (o.answer.dropped ≡ 0) × (o.bytes ≡ b))
-      (λ n k r. (refl, refl))
-      (λ m r. absurd (r m.number))

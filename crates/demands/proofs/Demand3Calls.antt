@@ -3,18 +3,17 @@
 --     offer-keeps, offer-adds, added-is-growth, taken-exactly        an offer
 --     hand-out-keeps, hand-out-adds, hand-out-index                  a hand-out
 --     list-rows                                                      the list
---     collect-keeps, collect-leaves, dropped-is-loss                 a collection
 use Prim.Native.Nat.{ℕ, ◌+◌}
 use mathlib.Core.Bool.{true, true≢false}
 use mathlib.Core.Path.{◌≡◌, refl, sym, ap, ◌∙◌}
 use mathlib.Core.Logic.{◌↔◌}
-use mathlib.Core.List.{List, [], ◌∷◌, ◌++◌, map}
+use mathlib.Core.List.{List, map}
 use native.Mathlib.Nat.{add-zero}
 use native.Mathlib.Omega.{arith}
 use lib.ListN.{length}
 use Rattle.octets.specs.Bytes.{every}
 use Rattle.judgement.specs.WorkingJudged.{judged_of}
-use Rattle.records.specs.Record.{aired, kept}
+use Rattle.records.specs.Record.{aired}
 use Rattle.ledger.specs.Sorted.{insert, insert_all}
 use Rattle.board.specs.Rules.{board_of}
 use Rattle.board.specs.Calls as calls
@@ -26,13 +25,13 @@ use Rattle.offers.specs.WorkingOffer.{message_offer}
 use Rattle.offers.specs.declared.Offered as offer
 use Rattle.told.specs.Values.{first_value}
 use Rattle.demands.specs.Calls.{library}
-use Rattle.demands.specs.Board.{kept_times, message_records, due_headers, makes_due, first_index, row_of, survivors}
+use Rattle.demands.specs.Board.{message_records, due_headers, makes_due, first_index, row_of}
 use Rattle.demands.specs.Numbers.{taken_rows, is_board}
 use Rattle.demands.specs.Runs.{Takes}
 use Rattle.demands.proofs.Messages.{judged-number}
 use Rattle.demands.proofs.Rows.{none-lowest}
 use Rattle.demands.proofs.BoardRules.{board-same, adds-new}
-use Rattle.demands.proofs.Outcomes.{Offered, offered, offer-cases, hand-out-cases, rows_on, Listed, listed, collect-cases}
+use Rattle.demands.proofs.Outcomes.{Offered, offered, offer-cases, hand-out-cases, rows_on, Listed, listed}
 
 pub takes-is : (m : List ℕ) → Takes m ↔ ((judged_of m).number ≡ 0)
 unfolding every
@@ -46,8 +45,8 @@ module _ (b m : List ℕ) where
       (λ n f k. (ok, refl))
       (λ t. (t.left.keeps, t.left.long))
 
-  pub offer-adds : (library.offering b m).answer.number ≡ 0 → board_of (library.offering b m).bytes ≡ insert_all (message_records (board_of b) m) (board_of b)
-  offer-adds = offer-cases b m (λ (o : MessageOffering). o.answer.number ≡ 0 → board_of o.bytes ≡ insert_all (message_records (board_of b) m) (board_of b))
+  pub offer-adds : (library.offering b m).answer.number ≡ 0 → board_of (library.offering b m).bytes ≡ insert_all (message_records m) (board_of b)
+  offer-adds = offer-cases b m (λ (o : MessageOffering). o.answer.number ≡ 0 → board_of o.bytes ≡ insert_all (message_records m) (board_of b))
       (λ n f k z. absurd (k z))
       (λ t z. t.left.holds)
 
@@ -56,7 +55,7 @@ module _ (b m : List ℕ) where
       (λ n f k. sym (add-zero (length (board_of b))))
       (λ t.
       ap length t.left.holds
-      ∙ adds-new (message_records (board_of b) m) (board_of b) (board_of b) (kept-rules b (sym (board-same b) ∙ t.is-board)).order (λ y. (λ i. i, λ i. i))
+      ∙ adds-new (message_records m) (board_of b) (board_of b) (kept-rules b (sym (board-same b) ∙ t.is-board)).order (λ y. (λ i. i, λ i. i))
       ∙ sym (ap (λ (a : offer.Offered). length (board_of b) + a.added) t.answer))
 
   pub taken-exactly : is_board b ≡ true → ((library.offering b m).answer.number ≡ 15 → ⊥) → ((library.offering b m).answer.number ≡ 0) ↔ Takes m
@@ -106,22 +105,3 @@ list-rows b rows z = go (listed b rows)
     go (Listed.bad _ e) = absurd (let q : 1 ≡ 0 = sym (ap (λ (o : calls.Listing). o.answer.number) e) ∙ z in omega arith)
     go (Listed.short _ _ e) = absurd (let q : 2 ≡ 0 = sym (ap (λ (o : calls.Listing). o.answer.number) e) ∙ z in omega arith)
     go (Listed.listing _ _ e) = (ap (λ (o : calls.Listing). o.rows) e, ap (λ (o : calls.Listing). o.answer.count) e)
-
--- ---- a collection
-
-module _ (b : List ℕ) (t : ℕ) where
-  pub collect-keeps : is_board b ≡ true → (is_board (library.collecting b t).bytes ≡ true) × (length (library.collecting b t).bytes ≡ length b)
-  collect-keeps ok = collect-cases b t (λ (o : calls.Collecting). (is_board o.bytes ≡ true) × (length o.bytes ≡ length b))
-      (λ n k. (ok, refl))
-      (λ m. (m.left.keeps, m.left.long))
-
-  pub collect-leaves : (library.collecting b t).answer.number ≡ 0 → board_of (library.collecting b t).bytes ≡ survivors t (board_of b) ++ (kept t ∷ [])
-  collect-leaves = collect-cases b t (λ (o : calls.Collecting). o.answer.number ≡ 0 → board_of o.bytes ≡ survivors t (board_of b) ++ (kept t ∷ []))
-      (λ n k z. absurd (k z))
-      (λ m z. m.left.holds)
-
-  pub dropped-is-loss : (library.collecting b t).answer.number ≡ 0 →
-      length (board_of (library.collecting b t).bytes) + (library.collecting b t).answer.dropped + length (kept_times (board_of b)) ≡ length (board_of b) + 1
-  dropped-is-loss = collect-cases b t (λ (o : calls.Collecting). o.answer.number ≡ 0 → length (board_of o.bytes) + o.answer.dropped + length (kept_times (board_of b)) ≡ length (board_of b) + 1)
-      (λ n k z. absurd (k z))
-      (λ m z. m.loses)

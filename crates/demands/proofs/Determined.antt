@@ -34,16 +34,14 @@ use Rattle.convert.specs.declared.Headed.{Headed}
 use Rattle.convert.proofs.header.Reads as header
 use Rattle.convert.proofs.text.Reads as text
 use Rattle.records.proofs.is_record.Reads as is-record
-use Rattle.dated.proofs.are_zeros.Reads as are-zeros
+use Rattle.records.proofs.are_zeros.Reads as are-zeros
 use Rattle.ledger.specs.declared.Row.{Row}
 use Rattle.board.specs.declared.Handed.{Handed}
-use Rattle.board.specs.declared.Collected.{Collected}
 use Rattle.board.specs.declared.Listed.{Listed}
 use Rattle.board.specs.declared.Rows as board-rows
 use Rattle.board.proofs.is_board.Reads as is-board
 use Rattle.board.proofs.filled.Reads as filled
 use Rattle.board.proofs.hand_out.Reads as hand-out
-use Rattle.board.proofs.collect.Reads as collect
 use Rattle.board.specs.contracts.list as list
 use Rattle.board.proofs.list_rows.Reads as list-rows
 use Rattle.offers.specs.declared.Offered.{Offered}
@@ -56,7 +54,6 @@ use Rattle.stuiverhaag.proofs.stuiverhaag_read_header.Reads as host-read
 use Rattle.stuiverhaag.proofs.stuiverhaag_write_header.Reads as host-write
 use Rattle.stuiverhaag.proofs.stuiverhaag_offer.Reads as host-offer
 use Rattle.stuiverhaag.proofs.stuiverhaag_hand_out.Reads as host-hand-out
-use Rattle.stuiverhaag.proofs.stuiverhaag_collect.Reads as host-collect
 use Rattle.demands.proofs.Arguments.{Lifetimes, Lent, Slices, Rows, Named, out_of}
 use Rattle.demands.proofs.Ties.{list-is-listing}
 
@@ -129,10 +126,6 @@ pub hand-out-determined : (κs : Lifetimes 1) (a x x' : Slices 1) (r r' : Handed
     hand-out.Learnt κs a r x → hand-out.Learnt κs a r' x' → (r ≡ r') × (x.0.now ≡ x'.0.now)
 hand-out-determined κs a x x' r r' p q = (one p.0 q.0, one p.1.0 q.1.0)
 
-pub collect-determined : (κs : Lifetimes 1) (a x x' : Lent × (ℕ × Unit {0})) (r r' : Collected) →
-    collect.Learnt κs a r x → collect.Learnt κs a r' x' → (r ≡ r') × (x.0.now ≡ x'.0.now)
-collect-determined κs a x x' r r' p q = (one p.0 q.0, one p.1.0 q.1.0)
-
 -- Learnt is not made of a contract with a slice of structs: what the list's clauses say, in any model, is said of them by themselves
 module _ {M : Type 1} {𝓤 : Ura M} (𝓛 : Logic 𝓤) (mem : Memory → SProp 𝓤) (run : Routine → Fun 𝓤) (κs : Lifetimes 2) (a : Lent × (Rows × Unit {0})) where
   abbrev Says : Lent × (Rows × Unit {0}) → Listed → SProp 𝓤
@@ -183,7 +176,3 @@ host-offer-determined κs a x x' r r' p q = (one p.0 q.0, one p.1 q.1)
 pub host-hand-out-determined : (κs : Lifetimes 1) (a x x' : Slices 1) (r r' : ℕ) →
     host-hand-out.Learnt κs a r x → host-hand-out.Learnt κs a r' x' → (r ≡ r') × (x.0.now ≡ x'.0.now)
 host-hand-out-determined κs a x x' r r' p q = (one p.0 q.0, one p.1 q.1)
-
-pub host-collect-determined : (κs : Lifetimes 1) (a x x' : Lent × (ℕ × Unit {0})) (r r' : ℕ) →
-    host-collect.Learnt κs a r x → host-collect.Learnt κs a r' x' → (r ≡ r') × (x.0.now ≡ x'.0.now)
-host-collect-determined κs a x x' r r' p q = (one p.0 q.0, one p.1 q.1)

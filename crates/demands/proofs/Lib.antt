@@ -10,8 +10,6 @@ pub mod Spellings
 pub mod Canadian
 pub mod Demand2
 pub mod Members
-pub mod KeptTimes
-pub mod Notices
 pub mod Dues
 pub mod BoardRules
 pub mod Outcomes
@@ -25,8 +23,6 @@ pub mod Opens
 pub mod Samples
 pub mod Layouts
 pub mod Years
-pub mod Collections
-pub mod CollectionStandIns
 pub mod StandIns
 pub mod Demands
 pub mod Arguments

@@ -1,7 +1,7 @@
 -- A message s as it is judged, said on its tree.
 --     judged-number, judged-field     the lowest of 4 to 14 that applies, and the field beside 7
 --     quiet_is, body_is               of one that answers 0: whether it is quiet, and the header that it gives
---     key-is, names-are               its own key, and the keys that it names
+--     key-is, names-are, records-are  its own key, the keys that it names, and the records that it leaves
 --     header_is, text-is              its header and must-carry for a station, and its text and audio
 use native.Mathlib.Omega.{arith}
 use Prim.Native.Nat.{ℕ, zero, suc}
@@ -26,11 +26,12 @@ use Rattle.judgement.proofs.Answers.{alerted-holds, judged-holds, passed}
 use Rattle.judgement.proofs.Bodies.{alerting, alert-body, message-kept}
 use Rattle.outputs.specs.WorkingOutputs.{uri_in}
 use Rattle.convert.specs.WorkingConvert.{text_in, header_by, text_by}
-use Rattle.offers.specs.WorkingRecords.{own_in, named_by, alert_by}
+use Rattle.records.specs.Record.{notice, withdrawal}
+use Rattle.offers.specs.WorkingRecords.{own_in, zero_filled_header, named_by, alert_by, records_of}
 use Rattle.told.specs.Values.{is_none, value_of, is_six}
 use Rattle.told.proofs.Leaves.{leaf-value}
 use Rattle.demands.specs.Message.{prefix, alert, locations, is_quiet, header_body, whole_header, whole_text}
-use Rattle.demands.specs.Board.{own_key, named_keys}
+use Rattle.demands.specs.Board.{own_key, own_header, named_keys, message_records}
 use Rattle.demands.specs.Numbers.{NumberRow, row, lowest_in, field_beside, message_rows, header_rows, taken_rows}
 use Rattle.demands.proofs.Rows.{held, at-pick, lowest-append}
 use Rattle.demands.proofs.Fields.{alert-real, read, Faultless}
@@ -150,7 +151,7 @@ module _ (s : List ℕ) (zero : (judged_of s).number ≡ 0) where
         sent-said s sound,
       )
 
-  -- ---- its own key, and the keys that it names
+  -- ---- the records that it leaves
 
   leaf-said : (w : String) → value_at s (leaf_in s (prefix s) w (alert s)).at ≡ value_of s (prefix s) w (alert s)
   leaf-said w = leaf-value s (prefix s) w (alert s) (alert-real s)
@@ -162,6 +163,18 @@ module _ (s : List ℕ) (zero : (judged_of s).number ≡ 0) where
   pub names-are : (alert_by s (judged_of s)).names ≡ named_keys s
   unfolding alert_by named_by judged alert_of
   names-are = rw (kept, naming-said s sound, leaf-said "references")
+
+  notice-is : map (notice (own_in s (judged_of s).message)) (alert_by s (judged_of s)).carries ≡ pick (is_quiet s) [] (notice (own_key s) (own_header s) ∷ [])
+  unfolding alert_by zero_filled_header
+  notice-is = rw (key-is, quiet_is) (go (is_quiet s) refl)
+    where
+      go : (b : Bool) → is_quiet s ≡ b → map (notice (own_key s)) (pick b [] (zero_filled_header (judged_of s) ∷ [])) ≡ pick b [] (notice (own_key s) (own_header s) ∷ [])
+      go true e = refl
+      go false e = rw (body_is e)
+
+  pub records-are : records_of s ≡ message_records s
+  unfolding records_of alert_by
+  records-are = rw (eq-eqb (judged_of s).number 0 zero) (ap₂ (λ (ns ws : List (List ℕ)). ns ++ map withdrawal ws) notice-is names-are)
 
   -- ---- what it gives in each call
 

@@ -3,11 +3,9 @@
 use mathlib.Core.List.{flat_map}
 use Rattle.header.specs.Body.{body_of}
 use Rattle.leaves.specs.Leaf.{decoded, leaf_value}
-use Rattle.clock.specs.Stamp.{instant_of}
-use Rattle.dated.specs.Dated.{dated_ok, end_of, header_of, header_ok, year_in, zero_filled}
-use Rattle.records.specs.Record.{aired, aired_in, behind, carried, dated, header, kept, key, key_of, key_ok, notice, over, pad, record_ok, rest, sent_in, stamp_in, withdrawal}
-use Rattle.ledger.specs.WorkingBoard.{carries, drops, due, live, outlasts, rows_of, stays, timely, unwithdrawn}
-use Rattle.board.specs.WorkingCalls.{collect_of, hand_of, list_of}
+use Rattle.records.specs.Record.{aired, aired_in, behind, carried, dated, dated_ok, header, header_of, header_ok, key, key_of, key_ok, notice, pad, record_ok, rest, sent_in, stamp_in, withdrawal, year_in, zero_filled}
+use Rattle.ledger.specs.WorkingBoard.{carries, due, live, rows_of, unwithdrawn}
+use Rattle.board.specs.WorkingCalls.{hand_of, list_of}
 use Rattle.board.specs.WorkingCalls as board-calls
 use Rattle.board.specs.Rules.{board_of}
 use Rattle.board.specs.WorkingRules.{board_ok, encode}
@@ -23,15 +21,15 @@ unfolding decoded leaf_value
 leaves-opens = tt
 
 records-opens : Unit {0}
-unfolding instant_of body_of aired aired_in behind carried dated dated_ok end_of header header_of header_ok kept key key_of key_ok notice over pad record_ok rest sent_in stamp_in withdrawal year_in zero_filled
+unfolding body_of aired aired_in behind carried dated dated_ok header header_of header_ok key key_of key_ok notice pad record_ok rest sent_in stamp_in withdrawal year_in zero_filled
 records-opens = tt
 
 ledger-opens : Unit {0}
-unfolding carries drops due live outlasts rows_of stays timely unwithdrawn
+unfolding carries due live rows_of unwithdrawn
 ledger-opens = tt
 
 board-opens : Unit {0}
-unfolding collect_of hand_of list_of board-calls.offer_of board_of board_ok encode
+unfolding hand_of list_of board-calls.offer_of board_of board_ok encode
 board-opens = tt
 
 offers-opens : Unit {0}

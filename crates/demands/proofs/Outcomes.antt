@@ -1,28 +1,25 @@
--- What an offer, a hand-out, the list and a collection do, in the demands' words: one case for each number, and one for 0.
+-- What an offer, a hand-out and the list do, in the demands' words: one case for each number, and one for 0.
 --     Offered, offered, offer-cases       an offer of the message s to the board b
 --     Handed, handed, hand-out-cases      a hand-out of b
 --     Listed, listed                      the list of b into m rows
---     Collected, collected, collect-cases a collection of b at t
 use Prim.Native.Nat.{ℕ, suc, ◌+◌, ◌-◌, ◌/◌, ◌≤◌, ◌<◌}
-use mathlib.Core.Bool.{Bool, true, false, not}
+use mathlib.Core.Bool.{Bool, true, false}
 use mathlib.Core.Path.{◌≡◌, refl, sym, ap, ◌∙◌, subst}
 use mathlib.Core.Logic.{inl}
-use mathlib.Core.List.{List, [], ◌∷◌, ◌++◌, map}
+use mathlib.Core.List.{List, [], ◌∷◌, map}
 use native.Mathlib.Omega.{arith}
 use borrow.Author.Tests.{eqb-true, eqb-false, leb-true, leb-false, le-leb}
 use lib.Dec.{eqb, leb}
-use lib.ListN.{length, length-map, length-append}
+use lib.ListN.{length, length-map}
 use Rattle.octets.specs.Bytes.{every}
 use Rattle.octets.proofs.Tests.{picked, passed_over}
 use Rattle.judgement.specs.WorkingJudged.{judged_of}
-use Rattle.records.specs.Record.{kind, aired, kept, record_ok}
+use Rattle.records.specs.Record.{aired, record_ok}
 use Rattle.ledger.specs.declared.Row.{Row}
 use Rattle.ledger.specs.Sorted.{In, insert, insert_all}
-use Rattle.ledger.specs.WorkingBoard as ledger
-use Rattle.ledger.specs.WorkingBoard.{due, kept_in, standing, After, hand_out_of, hand_out, timely}
+use Rattle.ledger.specs.WorkingBoard.{due, After, hand_out_of, hand_out}
 use Rattle.ledger.proofs.Sorts.{insert-new, every_in, in-every}
 use Rattle.ledger.proofs.Dues.{in-due}
-use Rattle.ledger.proofs.Kept.{no-time}
 use Rattle.board.specs.WorkingRules.{Records, board_ok}
 use Rattle.board.specs.Rules.{board_of}
 use Rattle.board.specs.Calls as calls
@@ -30,18 +27,16 @@ use Rattle.board.specs.WorkingCalls as working-calls
 use Rattle.board.proofs.Boards.{kept-rules, board-within}
 use Rattle.board.proofs.Answers.{hand-bad, list-bad}
 use Rattle.board.proofs.Keeps as keeps
-use Rattle.board.proofs.Collects as collects
 use Rattle.offers.specs.WorkingRecords.{records_of}
 use Rattle.offers.specs.Offer.{MessageOffering}
 use Rattle.offers.specs.WorkingOffer.{offer_refused_by, offer_given, message_offer}
 use Rattle.offers.proofs.Taken.{records-ok}
 use Rattle.offers.proofs.Offering.{offer-board, offer-message, offer-zero}
 use Rattle.demands.specs.Calls.{library}
-use Rattle.demands.specs.Board.{kept_times, message_records, new_to, due_headers, makes_due, first_index, row_of, survivors}
+use Rattle.demands.specs.Board.{message_records, new_to, due_headers, makes_due, first_index, row_of}
 use Rattle.demands.specs.Numbers.{is_board, empties_in}
 use Rattle.demands.specs.Runs.{header_given}
-use Rattle.demands.proofs.KeptTimes.{kept_same, late-same, leaves-same}
-use Rattle.demands.proofs.Notices.{alert_of, left, records-are}
+use Rattle.demands.proofs.Messages.{records-are}
 use Rattle.demands.proofs.Dues.{due-same, rows_same, index_same}
 use Rattle.demands.proofs.BoardRules.{board-same, adds-new}
 
@@ -55,14 +50,14 @@ pub record Left (b : List ℕ) (c : List (List ℕ)) (x : List ℕ) : Type 0 whe
 
 -- how many records a message adds to a board
 abbrev pub news_of : List ℕ → List ℕ → ℕ
-news_of b s = length (new_to (board_of b) (message_records (board_of b) s))
+news_of b s = length (new_to (board_of b) (message_records s))
 
 pub record Taken (b s : List ℕ) : Type 0 where
   pub is-board : is_board b ≡ true
   pub judged : (judged_of s).number ≡ 0
   pub room : news_of b s ≤ empties_in b
   pub answer : (message_offer b s).answer ≡ record { number = 0; field = 0; added = news_of b s }
-  pub left : Left b (insert_all (message_records (board_of b) s) (board_of b)) (message_offer b s).bytes
+  pub left : Left b (insert_all (message_records s) (board_of b)) (message_offer b s).bytes
 
 pub data Offered (b s : List ℕ) : Type 0 where
   bad : is_board b ≡ false → message_offer b s ≡ offer_refused_by 1 0 b → Offered b s
@@ -71,29 +66,21 @@ pub data Offered (b s : List ℕ) : Type 0 where
   taken : Taken b s → Offered b s
 
 module _ (b s : List ℕ) (ok : board_ok b ≡ true) (z : (judged_of s).number ≡ 0) where
-  -- the records that it takes
-  abbrev taking : List (List ℕ)
-  taking = records_of (board_of b) s
-
   abbrev filled : List (List ℕ)
-  filled = insert_all taking (board_of b)
+  filled = insert_all (records_of s) (board_of b)
 
   grown : length filled ≡ length (board_of b) + news_of b s
   grown =
-      adds-new taking (board_of b) (board_of b) (kept-rules b ok).order (λ y. (λ i. i, λ i. i))
-      ∙ ap (λ (rs : List (List ℕ)). length (board_of b) + length (new_to (board_of b) rs)) (records-are s z (board_of b))
+      adds-new (records_of s) (board_of b) (board_of b) (kept-rules b ok).order (λ y. (λ i. i, λ i. i))
+      ∙ ap (λ (rs : List (List ℕ)). length (board_of b) + length (new_to (board_of b) rs)) (records-are s z)
 
-  good : Records taking
-  good = every_in record_ok taking (records-ok (board_of b) s)
+  good : Records (records_of s)
+  good = every_in record_ok (records_of s) (records-ok s)
 
-  -- none of them is a kept time
-  timeless : (r : List ℕ) → In r taking → kind r ≡ 4 → ⊥
-  timeless = subst (λ (rs : List (List ℕ)). (r : List ℕ) → In r rs → kind r ≡ 4 → ⊥) (sym (left s z (board_of b))) (no-time (standing (board_of b) (alert_of s)))
-
-  bytes-are : (message_offer b s).bytes ≡ (working-calls.offer_of b taking).bytes
+  bytes-are : (message_offer b s).bytes ≡ (working-calls.offer_of b (records_of s)).bytes
   bytes-are = ap (λ (o : MessageOffering). o.bytes) (offer-zero b s z)
 
-  records-offered : keeps.Offer b taking → Offered b s
+  records-offered : keeps.Offer b (records_of s) → Offered b s
   records-offered (keeps.Offer.full l e) = full (board-same b ∙ ok) z (omega (arith, grown, board-within b)) (offer-zero b s z ∙ ap offer_given e)
   records-offered (keeps.Offer.taken l e) = taken record {
     is-board = board-same b ∙ ok;
@@ -103,13 +90,13 @@ module _ (b s : List ℕ) (ok : board_ok b ≡ true) (z : (judged_of s).number �
         let added : length filled - length (board_of b) ≡ news_of b s = omega (arith, grown) in
         ap (λ (o : MessageOffering). o.answer) (offer-zero b s z ∙ ap offer_given e) ∙ ap (λ (k : ℕ). record { number = 0; field = 0; added = k }) added;
     left = record {
-      keeps = board-same _ ∙ ap board_ok bytes-are ∙ keeps.offer-keeps b taking ok good timeless;
-      long = ap length bytes-are ∙ keeps.offer-long b taking ok good;
+      keeps = board-same _ ∙ ap board_ok bytes-are ∙ keeps.offer-keeps b (records_of s) ok good;
+      long = ap length bytes-are ∙ keeps.offer-long b (records_of s) ok good;
       holds =
           ap board_of bytes-are
-          ∙ keeps.offer-board b taking ok good
+          ∙ keeps.offer-board b (records_of s) ok good
           ∙ picked (leb (length filled) (length b / 384)) _ _ (le-leb (length filled) (length b / 384) l)
-          ∙ ap (λ (rs : List (List ℕ)). insert_all rs (board_of b)) (records-are s z (board_of b));
+          ∙ ap (λ (rs : List (List ℕ)). insert_all rs (board_of b)) (records-are s z);
     };
   }
 
@@ -120,7 +107,7 @@ module _ (b s : List ℕ) where
       go : (ok : Bool) → board_ok b ≡ ok → (t : Bool) → eqb (judged_of s).number 0 ≡ t → Offered b s
       go false ok t e = bad (board-same b ∙ ok) (offer-board b s ok)
       go true ok false e = unfit (board-same b ∙ ok) (eqb-false (judged_of s).number 0 e) (offer-message b s ok (eqb-false (judged_of s).number 0 e))
-      go true ok true e = let z = eqb-true (judged_of s).number 0 e in records-offered b s ok z (keeps.offer-is b (records_of (board_of b) s) ok)
+      go true ok true e = let z = eqb-true (judged_of s).number 0 e in records-offered b s ok z (keeps.offer-is b (records_of s) ok)
 
   -- what holds of every refusal, and where the message is taken, holds of the offer
   pub offer-cases : (P : MessageOffering → Type 0) → ((n f : ℕ) → (n ≡ 0 → ⊥) → P (offer_refused_by n f b)) → (Taken b s → P (message_offer b s)) → P (message_offer b s)
@@ -248,66 +235,3 @@ module _ (b : List ℕ) (m : ℕ) where
       go : (ok : Bool) → board_ok b ≡ ok → Listed b m
       go false ok = bad (board-same b ∙ ok) (list-bad b m ok)
       go true ok = rows-listed ok (leb (length (rows_on b)) m) refl
-
--- ---- a collection
-
--- what is left of the filled records
-abbrev pub left_at : ℕ → List ℕ → List (List ℕ)
-left_at t b = survivors t (board_of b) ++ (kept t ∷ [])
-
-pub record Made (b : List ℕ) (t : ℕ) : Type 0 where
-  pub is-board : is_board b ≡ true
-  pub in-time : timely t (board_of b) ≡ true
-  pub room : length (survivors t (board_of b)) + 1 ≤ length b / 384
-  pub number : (working-calls.collect_of b t).answer.number ≡ 0
-  pub loses : length (board_of (working-calls.collect_of b t).bytes) + (working-calls.collect_of b t).answer.dropped + length (kept_times (board_of b)) ≡ length (board_of b) + 1
-  pub left : Left b (left_at t b) (working-calls.collect_of b t).bytes
-
-pub data Collected (b : List ℕ) (t : ℕ) : Type 0 where
-  bad : is_board b ≡ false → working-calls.collect_of b t ≡ working-calls.collect_refused 1 b → Collected b t
-  late : is_board b ≡ true → timely t (board_of b) ≡ false → working-calls.collect_of b t ≡ working-calls.collect_refused 19 b → Collected b t
-  full : is_board b ≡ true → timely t (board_of b) ≡ true → length b / 384 < length (survivors t (board_of b)) + 1 → working-calls.collect_of b t ≡ working-calls.collect_refused 15 b → Collected b t
-  made : Made b t → Collected b t
-
-module _ (b : List ℕ) (t : ℕ) (ok : board_ok b ≡ true) where
-  are-left : ledger.collected t (board_of b) ≡ left_at t b
-  are-left = leaves-same t (board_of b) (each_keeps b ok)
-
-  many-left : length (ledger.collected t (board_of b)) ≡ length (survivors t (board_of b)) + 1
-  many-left = ap length are-left ∙ length-append (survivors t (board_of b)) (kept t ∷ [])
-
-  records-collected : collects.Collect b t ok → Collected b t
-  records-collected (collects.Collect.late u e f) = late (board-same b ∙ ok) u e
-  records-collected (collects.Collect.full u l e f) = full (board-same b ∙ ok) u (omega (arith, many-left)) e
-  records-collected (collects.Collect.made u l e f) =
-      let zero : (working-calls.collect_of b t).answer.number ≡ 0 = ap (λ (o : calls.Collecting). o.answer.number) e in
-      made record {
-        is-board = board-same b ∙ ok;
-        in-time = u;
-        room = omega (arith, many-left);
-        number = zero;
-        loses = omega (arith, collects.collect-loses b t ok zero, ap length (kept_same (board_of b)));
-        left = record {
-          keeps = board-same _ ∙ collects.collect-keeps b t ok;
-          long = collects.collect-long b t ok;
-          holds = collects.collect-board b t ok ∙ f ∙ are-left;
-        };
-      }
-
-module _ (b : List ℕ) (t : ℕ) where
-  pub collected : Collected b t
-  collected = go (board_ok b) refl
-    where
-      go : (ok : Bool) → board_ok b ≡ ok → Collected b t
-      go false ok = bad (board-same b ∙ ok) (collects.collect-bad b t ok)
-      go true ok = records-collected b t ok (collects.collect-is b t ok)
-
-  pub collect-cases : (P : calls.Collecting → Type 0) → ((n : ℕ) → (n ≡ 0 → ⊥) → P (working-calls.collect_refused n b)) → (Made b t → P (working-calls.collect_of b t)) →
-      P (working-calls.collect_of b t)
-  collect-cases P no_change change = go collected
-    where
-      go : Collected b t → P (working-calls.collect_of b t)
-      go (bad _ e) = subst P (sym e) (no_change 1 (λ z. omega arith))
-      go (late _ _ e) = subst P (sym e) (no_change 19 (λ z. omega arith))
-      go (full _ _ _ e) = subst P (sym e) (no_change 15 (λ z. omega arith))
-      go (made m) = change m

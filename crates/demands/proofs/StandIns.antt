@@ -6,7 +6,6 @@
 --     writes-nothing-rejected, invented-count-rejected    by the count, which is the growth in filled records
 --     nothing-after-first-rejected    by hand-outs that give one of two due headers
 --     forgets-years-rejected          by the table, which has no number for the weekly test of the second year
--- Those of a collection are in CollectionStandIns.
 -- They are rejected for what they answer and not for how they are written: whatever answers as the library does meets the demands if the library does.
 --     alike, careful-meets
 use Prim.Native.Nat.{ℕ, ◌+◌, min}
@@ -148,7 +147,6 @@ same-calls c same = λ i. record {
   offering = λ b s. same.offering b s i;
   handing = λ b. same.handing b i;
   listing = λ b rows. same.listing b rows i;
-  collecting = λ b t. same.collecting b t i;
   reading = λ s. same.reading s i;
   writing = λ d p. same.writing d p i;
 }
@@ -164,7 +162,6 @@ careful-same = record {
   offering = λ b s. ap (library.offering b) (take-length s);
   handing = λ b. refl;
   listing = λ b rows. refl;
-  collecting = λ b t. refl;
   reading = λ s. ap library.reading (append-nil s);
   writing = λ d p. refl;
 }

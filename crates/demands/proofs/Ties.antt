@@ -1,7 +1,7 @@
 -- What a function's contract allows, answer and lent bytes at exit, is the library's call that the demands speak of. Learnt is the contract as the toolchain
 -- reads it: what a caller learns of lifetimes κs, arguments a, a result r and the arguments at exit x.
---     header-is-heading, text-is-texting, canadian-is-canadian, offer-is-offering, hand-out-is-handing, collect-is-collecting, list-is-listing, read-is-reading, write-is-writing    for callers in Rattle
---     host-header-is-heading, host-text-is-texting, host-canadian-is-canadian, host-offer-is-offering, host-hand-out-is-handing, host-collect-is-collecting, host-read-is-reading, host-write-is-writing    for a host in C
+--     header-is-heading, text-is-texting, canadian-is-canadian, offer-is-offering, hand-out-is-handing, list-is-listing, read-is-reading, write-is-writing    for callers in Rattle
+--     host-header-is-heading, host-text-is-texting, host-canadian-is-canadian, host-offer-is-offering, host-hand-out-is-handing, host-read-is-reading, host-write-is-writing    for a host in C
 --     program-is-both    the program's lines
 use Prim.Native.Nat.{ℕ, ◌≤◌}
 use mathlib.Core.Path.{◌≡◌}
@@ -31,14 +31,12 @@ use Rattle.convert.specs.Convert.{HeaderOutcome, header_answer_of}
 use Rattle.convert.specs.declared.Headed.{Headed}
 use Rattle.convert.proofs.header.Reads as header
 use Rattle.convert.proofs.text.Reads as text
-use Rattle.board.specs.Calls.{Handing, Listing, Collecting}
+use Rattle.board.specs.Calls.{Handing, Listing}
 use Rattle.board.specs.WorkingCalls.{blanks}
 use Rattle.board.specs.declared.Handed.{Handed}
-use Rattle.board.specs.declared.Collected.{Collected}
 use Rattle.board.specs.declared.Listed.{Listed}
 use Rattle.board.specs.declared.Rows as board-rows
 use Rattle.board.proofs.hand_out.Reads as hand-out
-use Rattle.board.proofs.collect.Reads as collect
 use Rattle.board.specs.contracts.list as list
 use Rattle.board.proofs.list_rows.Reads as list-rows
 use Rattle.board.proofs.Walks.{said}
@@ -47,7 +45,7 @@ use Rattle.offers.specs.declared.Offered.{Offered}
 use Rattle.offers.proofs.offer.Reads as offer
 use Rattle.report.specs.Program.{printed, program_of}
 use Rattle.report.proofs.program.Reads as program
-use Rattle.stuiverhaag.specs.Packed.{packed_headed, packed_text, packed_read, packed_written, packed_offered, packed_handed, packed_collected}
+use Rattle.stuiverhaag.specs.Packed.{packed_headed, packed_text, packed_read, packed_written, packed_offered, packed_handed}
 use Rattle.stuiverhaag.proofs.stuiverhaag_header.Reads as host-header
 use Rattle.stuiverhaag.proofs.stuiverhaag_text.Reads as host-text
 use Rattle.stuiverhaag.proofs.stuiverhaag_canadian.Reads as host-canadian
@@ -55,7 +53,6 @@ use Rattle.stuiverhaag.proofs.stuiverhaag_read_header.Reads as host-read
 use Rattle.stuiverhaag.proofs.stuiverhaag_write_header.Reads as host-write
 use Rattle.stuiverhaag.proofs.stuiverhaag_offer.Reads as host-offer
 use Rattle.stuiverhaag.proofs.stuiverhaag_hand_out.Reads as host-hand-out
-use Rattle.stuiverhaag.proofs.stuiverhaag_collect.Reads as host-collect
 use Rattle.demands.specs.Calls.{Writing, library}
 use Rattle.demands.proofs.Arguments.{Lifetimes, Lent, Slices, Rows, Named, out_of}
 
@@ -164,18 +161,6 @@ hand-out-is-handing κs a x r p = (p.0, p.1.0)
 pub host-hand-out-is-handing : (κs : Lifetimes 1) (a x : Slices 1) (r : ℕ) →
     host-hand-out.Learnt κs a r x → (r ≡ packed_handed (handed a).answer) × (x.0.now ≡ (handed a).bytes)
 host-hand-out-is-handing κs a x r p = p
-
--- of a board, at a time
-abbrev collected : Lent × (ℕ × Unit {0}) → Collecting
-collected a = library.collecting a.0.now a.1.0
-
-pub collect-is-collecting : (κs : Lifetimes 1) (a x : Lent × (ℕ × Unit {0})) (r : Collected) →
-    collect.Learnt κs a r x → (r ≡ (collected a).answer) × (x.0.now ≡ (collected a).bytes)
-collect-is-collecting κs a x r p = (p.0, p.1.0)
-
-pub host-collect-is-collecting : (κs : Lifetimes 1) (a x : Lent × (ℕ × Unit {0})) (r : ℕ) →
-    host-collect.Learnt κs a r x → (r ≡ packed_collected (collected a).answer) × (x.0.now ≡ (collected a).bytes)
-host-collect-is-collecting κs a x r p = p
 
 -- Learnt is not made of a contract with a slice of structs: what the list's clauses say, in any model, is said of them by themselves
 module _ {M : Type 1} {𝓤 : Ura M} (𝓛 : Logic 𝓤) (mem : Memory → SProp 𝓤) (run : Routine → Fun 𝓤) (κs : Lifetimes 2) (a : Lent × (Rows × Unit {0})) where

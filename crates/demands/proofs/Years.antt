@@ -19,8 +19,7 @@ use Rattle.octets.specs.Text.{bytes}
 use Rattle.octets.proofs.Orders.{Way, way, first_below, first_above, first-equal, cmp-refl, starts-decide}
 use Rattle.clock.specs.Stamp.{stamp_of}
 use Rattle.clock.proofs.Stamps.{stamp-fits}
-use Rattle.dated.specs.Dated.{be2}
-use Rattle.records.specs.Record.{kind, key, sent_in, header, dated, carried, record_ok, key_of, notice}
+use Rattle.records.specs.Record.{kind, key, sent_in, header, be2, dated, carried, record_ok, key_of, notice}
 use Rattle.records.proofs.Records.{record-long, header-long, of-notice, key-low}
 use Rattle.records.proofs.Carried.{carried-is}
 use Rattle.board.specs.WorkingRules.{encode}

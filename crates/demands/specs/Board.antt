@@ -1,13 +1,11 @@
--- "The board": the records that a message leaves, what is due, and what a collection drops. b is the filled records of a board, m a message, t a time in the board's
--- seconds.
-use Rattle.std.specs.Prelude.{ℕ, zero, suc, ◌+◌, ◌/◌, ◌%◌, ◌≡◌, Bool, false, ◌&&◌, ◌||◌, not, List, [], ◌∷◌, ◌++◌, map, length, eqb, leb, ltb}
-use Rattle.octets.specs.Bytes.{pick, every, same}
+-- "The board": the records that a message leaves, and what is due. b is the filled records of a board, m a message.
+use Rattle.std.specs.Prelude.{ℕ, zero, suc, ◌/◌, ◌%◌, ◌≡◌, Bool, false, ◌&&◌, ◌||◌, not, List, [], ◌∷◌, ◌++◌, map, length, eqb}
+use Rattle.octets.specs.Bytes.{pick, same}
 use Rattle.clock.specs.Time.{time_of, instant_in}
 use Rattle.clock.specs.Stamp.{stamp_of}
 use Rattle.header.specs.Body.{body_bytes}
 use Rattle.fields.specs.References.{sender_of, identifier_of, sent_of, words}
-use Rattle.dated.specs.Dated.{end_of}
-use Rattle.records.specs.Record.{kind, key, sent_in, carried, pad, key_of, notice, withdrawal}
+use Rattle.records.specs.Record.{kind, key, carried, pad, key_of, notice, withdrawal}
 use Rattle.ledger.specs.Sorted.{In, has, insert_all}
 use Rattle.ledger.specs.declared.Row.{Row}
 use Rattle.told.specs.Values.{passing, is_one}
@@ -35,18 +33,9 @@ group_key w = key_of (instant_in (time_of (sent_of w))) (sender_of w) (identifie
 abbrev pub named_keys : List ℕ → List (List ℕ)
 named_keys m = pick (is_one ("Update" ∷ "Cancel" ∷ []) (msg_type m)) (map group_key (words (references m))) []
 
--- the times kept on a board, in the sent field of its records of kind 4: one, or none
-abbrev pub kept_times : List (List ℕ) → List ℕ
-kept_times b = map (λ r. sent_in (key r)) (passing (λ r. eqb (kind r) 4) b)
-
--- e is after the kept time, or none is kept
-abbrev pub after_kept : List (List ℕ) → ℕ → Bool
-after_kept b e = every (λ t. ltb t e) (kept_times b)
-
--- an offer adds the notice (unless quiet, or one that would end at or before the kept time) and one withdrawal per reference of an Update or Cancel
-abbrev pub message_records : List (List ℕ) → List ℕ → List (List ℕ)
-message_records b m =
-    pick (is_quiet m || not (after_kept b (end_of (own_dated m)))) [] (notice (own_key m) (own_header m) ∷ []) ++ map withdrawal (named_keys m)
+-- an offer adds the notice (unless quiet) and one withdrawal per reference of an Update or Cancel
+abbrev pub message_records : List ℕ → List (List ℕ)
+message_records m = pick (is_quiet m) [] (notice (own_key m) (own_header m) ∷ []) ++ map withdrawal (named_keys m)
 
 -- records held already, or named twice in one offer, aren't added again: those that must be added
 abbrev pub new_to : List (List ℕ) → List (List ℕ) → List (List ℕ)
@@ -95,15 +84,3 @@ first_index f (r ∷ rs) = pick (f r) zero (suc (first_index f rs))
 -- the index of the smallest notice that makes a header due, and how many notices not withdrawn carry it
 abbrev pub row_of : List (List ℕ) → List ℕ → Row
 row_of b h = record { index = first_index (makes_due b h) b; count = length (passing (carries_it b h) b) }
-
--- ---- a collection at t
-
--- it drops notices and aired records whose end is at or before t, and withdrawals whose sent is at least 100 hours before t
-abbrev pub is_dropped : ℕ → List ℕ → Bool
-is_dropped t r =
-    ((eqb (kind r) 1 || eqb (kind r) 3) && leb (end_of (carried r)) t)
-    || (eqb (kind r) 2 && leb (sent_in (key r) + 360000) t)
-
--- the survivors, in order; an older kept time gives way to t, and is not one of the dropped
-abbrev pub survivors : ℕ → List (List ℕ) → List (List ℕ)
-survivors t b = passing (λ r. not (is_dropped t r || eqb (kind r) 4)) b

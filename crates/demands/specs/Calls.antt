@@ -8,8 +8,8 @@ use Rattle.outputs.specs.Outputs.{TextOutcome}
 use Rattle.canadian.specs.WorkingCanadian.{canadian_of}
 use Rattle.convert.specs.Convert.{HeaderOutcome}
 use Rattle.convert.specs.WorkingConvert.{header_call, text_call}
-use Rattle.board.specs.Calls.{Handing, Listing, Collecting}
-use Rattle.board.specs.WorkingCalls.{hand_of, list_of, collect_of}
+use Rattle.board.specs.Calls.{Handing, Listing}
+use Rattle.board.specs.WorkingCalls.{hand_of, list_of}
 use Rattle.offers.specs.Offer.{MessageOffering}
 use Rattle.offers.specs.WorkingOffer.{message_offer}
 
@@ -31,8 +31,6 @@ pub record Calls : Type 0 where
   pub handing : (b : List ℕ) → Handing
   -- the list of the board b into so many rows
   pub listing : (b : List ℕ) (rows : ℕ) → Listing
-  -- a collection of the board b at the time t, in the board's seconds
-  pub collecting : (b : List ℕ) (t : ℕ) → Collecting
   -- reading the header s
   pub reading : (s : List ℕ) → Read
   -- writing a header of the parts p into the output d
@@ -47,7 +45,6 @@ library = record {
   offering = message_offer;
   handing = hand_of;
   listing = list_of;
-  collecting = collect_of;
   reading = read_of;
   writing = λ d p. record { answer = write_of d p; bytes = write_bytes d p };
 }

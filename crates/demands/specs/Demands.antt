@@ -4,15 +4,15 @@ use Rattle.parts.specs.Parts.{no_body, no_station}
 use Rattle.parts.specs.declared.Parts.{Parts}
 use Rattle.outputs.specs.Outputs.{no_text}
 use Rattle.convert.specs.Convert.{no_header}
-use Rattle.records.specs.Record.{pad, aired, kept}
+use Rattle.records.specs.Record.{pad, aired}
 use Rattle.ledger.specs.Sorted.{In, insert, insert_all}
 use Rattle.board.specs.Rules.{board_of}
 use Rattle.told.specs.Values.{first_value}
 use Rattle.demands.specs.Calls.{Calls}
 use Rattle.demands.specs.Message.{is_quiet, header_parts, Spelt, whole_header, whole_text, whole_in_canada}
-use Rattle.demands.specs.Board.{own_header, kept_times, message_records, due_headers, makes_due, first_index, row_of, survivors}
-use Rattle.demands.specs.Numbers.{Numbered, none_applies, field_beside, heading_rows, texting_rows, canadian_rows, is_board, empties_in, offer_rows, hand_out_rows, list_rows, collect_rows, read_rows, write_rows}
-use Rattle.demands.specs.Runs.{Empty, after_offers, NoneFull, Takes, CarriedBy, hand_outs, BoardCall, after_calls, taken_of, CarriedSince, handed_out, Once}
+use Rattle.demands.specs.Board.{own_header, message_records, due_headers, makes_due, first_index, row_of}
+use Rattle.demands.specs.Numbers.{Numbered, none_applies, field_beside, heading_rows, texting_rows, canadian_rows, is_board, empties_in, offer_rows, hand_out_rows, list_rows, read_rows, write_rows}
+use Rattle.demands.specs.Runs.{Empty, after_offers, NoneFull, Takes, CarriedBy, hand_outs, BoardCall, handed_out, Once}
 
 -- Bad input gets the refusal number that document 01 gives, no call is refused where none of its numbers applies, and a refused call changes no lent byte and no
 -- lent row: it returns its number, and beside 7 its field, zeros elsewhere, and writes nothing.
@@ -33,8 +33,6 @@ pub record Demand1 (c : Calls) : Type 0 where
   pub hand-out-refused : (b : List ℕ) → ((c.handing b).answer.number ≡ 0 → ⊥) → ((c.handing b).answer.index ≡ 0) × ((c.handing b).bytes ≡ b)
   pub list-numbered : (b : List ℕ) (rows : ℕ) → Numbered (c.listing b rows).answer.number (list_rows b rows)
   pub list-refused : (b : List ℕ) (rows : ℕ) → ((c.listing b rows).answer.number ≡ 0 → ⊥) → ((c.listing b rows).answer.count ≡ 0) × ((c.listing b rows).rows ≡ [])
-  pub collect-numbered : (b : List ℕ) (t : ℕ) → Numbered (c.collecting b t).answer.number (collect_rows b t)
-  pub collect-refused : (b : List ℕ) (t : ℕ) → ((c.collecting b t).answer.number ≡ 0 → ⊥) → ((c.collecting b t).answer.dropped ≡ 0) × ((c.collecting b t).bytes ≡ b)
   pub read-numbered : (s : List ℕ) → Numbered (c.reading s).number (read_rows s)
   pub read-refused : (s : List ℕ) → ((c.reading s).number ≡ 0 → ⊥) → (c.reading s).parts ≡ record { body = no_body; station = no_station }
   pub write-numbered : (d : List ℕ) (p : Parts) → Numbered (c.writing d p).answer.number (write_rows (length d) p)
@@ -68,9 +66,8 @@ pub record Demand3 (c : Calls) : Type 0 where
   -- a board that keeps the rules keeps them, and its length
   pub offer-keeps : (b m : List ℕ) → is_board b ≡ true → (is_board (c.offering b m).bytes ≡ true) × (length (c.offering b m).bytes ≡ length b)
   pub hand-out-keeps : (b : List ℕ) → is_board b ≡ true → (is_board (c.handing b).bytes ≡ true) × (length (c.handing b).bytes ≡ length b)
-  pub collect-keeps : (b : List ℕ) (t : ℕ) → is_board b ≡ true → (is_board (c.collecting b t).bytes ≡ true) × (length (c.collecting b t).bytes ≡ length b)
   -- an offer adds the records of its message, and returns how many were added: the growth in filled records
-  pub offer-adds : (b m : List ℕ) → (c.offering b m).answer.number ≡ 0 → board_of (c.offering b m).bytes ≡ insert_all (message_records (board_of b) m) (board_of b)
+  pub offer-adds : (b m : List ℕ) → (c.offering b m).answer.number ≡ 0 → board_of (c.offering b m).bytes ≡ insert_all (message_records m) (board_of b)
   pub added-is-growth : (b m : List ℕ) → length (board_of (c.offering b m).bytes) ≡ length (board_of b) + (c.offering b m).answer.added
   -- a message is taken if its offer answers 0
   pub taken-exactly : (b m : List ℕ) → is_board b ≡ true → ((c.offering b m).answer.number ≡ 15 → ⊥) → ((c.offering b m).answer.number ≡ 0) ↔ Takes m
@@ -80,10 +77,6 @@ pub record Demand3 (c : Calls) : Type 0 where
   -- the list gives one row per due header, ordered by header, then year, and returns their number
   pub list-rows : (b : List ℕ) (rows : ℕ) → (c.listing b rows).answer.number ≡ 0 →
       ((c.listing b rows).rows ≡ map (row_of (board_of b)) (due_headers (board_of b))) × ((c.listing b rows).answer.count ≡ length (due_headers (board_of b)))
-  -- a collection leaves the survivors, in order, and t as the single kept time; the count dropped is the loss in filled records but for the kept time
-  pub collect-leaves : (b : List ℕ) (t : ℕ) → (c.collecting b t).answer.number ≡ 0 → board_of (c.collecting b t).bytes ≡ survivors t (board_of b) ++ (kept t ∷ [])
-  pub dropped-is-loss : (b : List ℕ) (t : ℕ) → (c.collecting b t).answer.number ≡ 0 →
-      length (board_of (c.collecting b t).bytes) + (c.collecting b t).answer.dropped + length (kept_times (board_of b)) ≡ length (board_of b) + 1
   -- a header on a board, without its year, is the conversion's without its station
   pub on-board : (s station : List ℕ) (h : ℕ) → none_applies (heading_rows s station h) ≡ true → is_quiet s ≡ false →
       (front : List ℕ) × (own_header s ≡ pad 243 front) × ((c.heading s station h).given.header ≡ front ++ (station ++ (45 ∷ [])))
@@ -95,14 +88,7 @@ pub record Demand3 (c : Calls) : Type 0 where
   pub due-exactly : (b : List ℕ) → Empty b → (ms : List (List ℕ)) → NoneFull c ms b → (h : List ℕ) → In h (due_headers (board_of (after_offers c ms b))) ↔ CarriedBy ms h
   -- Hand-outs, while there is room, then give each due header with its year once, in byte order.
   pub in_order : (b : List ℕ) → is_board b ≡ true → (n : ℕ) → hand_outs c n b ≡ take (min n (empties_in b)) (due_headers (board_of b))
-  -- The first two sentences hold for boards that start equal and are not collected between; their lengths may differ.
-  pub same-from-equal : (b b' : List ℕ) → is_board b ≡ true → is_board b' ≡ true → board_of b ≡ board_of b' →
-      (ms ms' : List (List ℕ)) → ((m : List ℕ) → In m ms → In m ms') → ((m : List ℕ) → In m ms' → In m ms) →
-      NoneFull c ms b → NoneFull c ms' b' → board_of (after_offers c ms b) ≡ board_of (after_offers c ms' b')
-  -- The third holds on a board that began empty, whatever offers, hand-outs and collections came since, and speaks only of headers with no aired record held.
-  pub due-since-empty : (b : List ℕ) → Empty b → (cs : List BoardCall) (h : List ℕ) → (In (aired h) (board_of (after_calls c cs b)) → ⊥) →
-      In h (due_headers (board_of (after_calls c cs b))) ↔ CarriedSince (board_of (after_calls c cs b)) (taken_of c cs b) h
-  -- Over any mixture of offers and hand-outs, collections included, on a board that began empty, no header with its year is handed out twice.
+  -- Over any mixture of offers and hand-outs on a board that began empty, no header with its year is handed out twice.
   pub never-twice : (b : List ℕ) → Empty b → (cs : List BoardCall) → Once (handed_out c cs b)
 
 -- Of the two calls of a conversion: on every message both give the same number and field when all outputs are long enough.

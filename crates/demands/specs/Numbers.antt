@@ -1,5 +1,5 @@
 -- "Numbers returned": each number with the condition under which it applies, in the order in which a call asks them. s is a message, b a board.
-use Rattle.std.specs.Prelude.{ℕ, ◌+◌, ◌-◌, ◌*◌, ◌/◌, ◌%◌, ◌≡◌, ◌↔◌, Bool, true, false, ◌&&◌, ◌||◌, not, List, [], ◌∷◌, ◌++◌, map, length, drop, eqb, leb, ltb}
+use Rattle.std.specs.Prelude.{ℕ, ◌+◌, ◌-◌, ◌*◌, ◌/◌, ◌%◌, ◌≡◌, ◌↔◌, Bool, true, false, ◌&&◌, not, List, [], ◌∷◌, ◌++◌, map, length, drop, eqb, leb, ltb}
 use Rattle.octets.specs.Bytes.{pick, every, holds, between, one_of, is_capital}
 use Rattle.clock.specs.Time.{time_of, is_time}
 use Rattle.parts.specs.Parts.{body_ok}
@@ -8,14 +8,13 @@ use Rattle.header.specs.Header.{header_form}
 use Rattle.markup.specs.Tree.{One, one, none}
 use Rattle.markup.specs.Document.{doc_at}
 use Rattle.fields.specs.References.{sender_of, identifier_of, sent_of, words}
-use Rattle.dated.specs.Dated.{zeros}
-use Rattle.records.specs.Record.{record_ok}
+use Rattle.records.specs.Record.{zeros, record_ok}
 use Rattle.ledger.specs.Sorted.{In, ascending}
 use Rattle.board.specs.Rules.{board_of}
 use Rattle.told.specs.Values.{is_none, first_value, is, is_one, once, is_six, info_sound, languages_sound}
 use Rattle.message.specs.Root.{root_ok}
 use Rattle.demands.specs.Message.{prefix, alert, info, identifier, sender, sent, status, msg_type, scope, references, expires, events, locations, originator, is_quiet, sent_seconds, expires_seconds, broadcast_values, description}
-use Rattle.demands.specs.Board.{kept_times, message_records, new_to, some, due_headers, survivors}
+use Rattle.demands.specs.Board.{message_records, new_to, due_headers}
 
 pub record NumberRow : Type 0 where
   pub number : ℕ
@@ -139,8 +138,7 @@ canadian_rows s text uri =
 
 -- ---- an offer to a board asks 1 and 4 to 15
 
--- a board holds 1 to 170 records of 384 bytes; the filled ones first, strictly ascending by bytes, each keeping its own rules, a single one at most a kept time; the
--- rest all zero
+-- a board holds 1 to 170 records of 384 bytes; the filled ones first, strictly ascending by bytes, each keeping its own rules; the rest all zero
 abbrev pub is_board : List ℕ → Bool
 is_board b =
     every holds (
@@ -148,7 +146,6 @@ is_board b =
     ∷ eqb (length b % 384) 0
     ∷ ascending (board_of b)
     ∷ every record_ok (board_of b)
-    ∷ leb (length (kept_times (board_of b))) 1
     ∷ zeros (drop (length (board_of b) * 384) b)
     ∷ []
     )
@@ -162,7 +159,7 @@ abbrev pub offer_rows : List ℕ → List ℕ → List NumberRow
 offer_rows b s =
     row 1 (not (is_board b))
     ∷ (taken_rows s
-    ++ (row 15 (ltb (empties_in b) (length (new_to (board_of b) (message_records (board_of b) s)))) ∷ []))
+    ++ (row 15 (ltb (empties_in b) (length (new_to (board_of b) (message_records s)))) ∷ []))
 
 -- ---- a hand-out of a board asks 1, 16, 15 in that order
 
@@ -181,16 +178,6 @@ abbrev pub list_rows : List ℕ → ℕ → List NumberRow
 list_rows b rows =
     row 1 (not (is_board b))
     ∷ row 2 (ltb rows (length (due_headers (board_of b))))
-    ∷ []
-
--- ---- a collection of a board at t asks 1, 19, 15 in that order
-
--- 19 t is 3,155,760,000 or more, or below the kept one; 15 after the dropping there is no room for the first kept time
-abbrev pub collect_rows : List ℕ → ℕ → List NumberRow
-collect_rows b t =
-    row 1 (not (is_board b))
-    ∷ row 19 (leb 3155760000 t || some (λ k. ltb t k) (kept_times (board_of b)))
-    ∷ row 15 (ltb (length b / 384) (length (survivors t (board_of b)) + 1))
     ∷ []
 
 -- ---- a header

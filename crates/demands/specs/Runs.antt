@@ -1,14 +1,12 @@
--- Messages offered to one board, hand-outs and collections of it, one after the other. A message is its bytes, and so is a board; c are the calls. A header is one
--- with its year.
+-- Messages offered to one board, and hand-outs of it, one after the other. A message is its bytes, and so is a board; c are the calls. A header is one with its year.
 use Rattle.std.specs.Prelude.{ℕ, zero, suc, ◌≡◌, true, false, List, [], ◌∷◌, ◌++◌, eqb, get_or}
 use Rattle.octets.specs.Bytes.{pick}
-use Rattle.dated.specs.Dated.{end_of}
 use Rattle.records.specs.Record.{carried}
 use Rattle.ledger.specs.Sorted.{In}
 use Rattle.board.specs.Rules.{board_of}
 use Rattle.demands.specs.Calls.{Calls}
 use Rattle.demands.specs.Message.{is_quiet}
-use Rattle.demands.specs.Board.{own_key, own_dated, named_keys, after_kept}
+use Rattle.demands.specs.Board.{own_key, own_dated, named_keys}
 use Rattle.demands.specs.Numbers.{none_applies, taken_rows, is_board}
 
 -- an empty board
@@ -50,43 +48,17 @@ abbrev pub hand_outs : Calls → ℕ → List ℕ → List (List ℕ)
 hand_outs c zero b = []
 hand_outs c (suc n) b = header_given c b ++ hand_outs c n (c.handing b).bytes
 
--- ---- any mixture of offers, hand-outs and collections
+-- ---- any mixture of offers and hand-outs
 
 pub data BoardCall : Type 0 where
   offers : List ℕ → BoardCall
   hands_out : BoardCall
-  collects : ℕ → BoardCall
-
--- the board after it
-abbrev pub after_calls : Calls → List BoardCall → List ℕ → List ℕ
-after_calls c [] b = b
-after_calls c (offers m ∷ cs) b = after_calls c cs (c.offering b m).bytes
-after_calls c (hands_out ∷ cs) b = after_calls c cs (c.handing b).bytes
-after_calls c (collects t ∷ cs) b = after_calls c cs (c.collecting b t).bytes
-
--- the messages that it takes: those whose offer answers 0
-abbrev pub taken_of : Calls → List BoardCall → List ℕ → List (List ℕ)
-taken_of c [] b = []
-taken_of c (offers m ∷ cs) b = pick (eqb (c.offering b m).answer.number 0) (m ∷ []) [] ++ taken_of c cs (c.offering b m).bytes
-taken_of c (hands_out ∷ cs) b = taken_of c cs (c.handing b).bytes
-taken_of c (collects t ∷ cs) b = taken_of c cs (c.collecting b t).bytes
-
--- a message taken since then carried the header, one whose notice ends after the time kept on b, or any if none is kept; and its sender, identifier and time no Update
--- or Cancel names that was taken since then, whatever became of their own notices
-pub record CarriedSince (b : List (List ℕ)) (ms : List (List ℕ)) (h : List ℕ) : Type 0 where
-  pub by : List ℕ
-  pub taken : In by ms
-  pub not-quiet : is_quiet by ≡ false
-  pub carries : own_dated by ≡ h
-  pub lasts : after_kept b (end_of (own_dated by)) ≡ true
-  pub not_named : (m : List ℕ) → In m ms → In (own_key by) (named_keys m) → ⊥
 
 -- the headers that it hands out, in order
 abbrev pub handed_out : Calls → List BoardCall → List ℕ → List (List ℕ)
 handed_out c [] b = []
 handed_out c (offers m ∷ cs) b = handed_out c cs (c.offering b m).bytes
 handed_out c (hands_out ∷ cs) b = header_given c b ++ handed_out c cs (c.handing b).bytes
-handed_out c (collects t ∷ cs) b = handed_out c cs (c.collecting b t).bytes
 
 -- no header twice
 abbrev pub Once : List (List ℕ) → Type 0

@@ -1,28 +1,25 @@
 -- Stand-ins for the library's calls. Document 01, "Holding a promise to its result", has five rejected: a converter that always refuses, or always gives one
 -- header; an offer that writes nothing, or returns an invented added count; a hand-out that gives the first header and ever after says nothing is due. Of the calls
 -- of a conversion each that always refuses is rejected by itself, and a text call that does not judge the station; a Canadian mode that always refuses is rejected
--- too, and a hand-out that forgets the year of a header; a collection that drops nothing, that drops aired records before their notices end, that keeps no time, or
--- that returns an invented count; and an offer that forgets the kept time. Each is the library but for one call. The last answers as the library does and is written
--- otherwise. Before them, the messages and boards on which they are tried.
-use Rattle.std.specs.Prelude.{ℕ, ◌+◌, ◌≡◌, Bool, ◌&&◌, not, List, [], ◌∷◌, ◌++◌, eqb, leb, length, take, get_or, replicate}
+-- too, and a hand-out that forgets the year of a header. Each is the library but for one call. The last answers as the library does and is written otherwise. Before
+-- them, the messages and boards on which they are tried.
+use Rattle.std.specs.Prelude.{ℕ, ◌≡◌, ◌&&◌, List, [], ◌∷◌, ◌++◌, eqb, length, take, get_or, replicate}
 use Prim.Native.String.{String}
 use Rattle.octets.specs.Bytes.{pick, same}
 use Rattle.octets.specs.Text.{bytes}
 use Rattle.parts.specs.declared.Parts.{Parts}
-use Rattle.told.specs.Values.{is_none, passing}
+use Rattle.told.specs.Values.{is_none}
 use Rattle.outputs.specs.Outputs.{alone, TextOutcome}
 use Rattle.outputs.specs.WorkingOutputs.{text_refused}
 use Rattle.convert.specs.Convert.{HeaderGiven, no_header, HeaderOutcome}
-use Rattle.dated.specs.Dated.{end_of}
-use Rattle.records.specs.Record.{kind, header, carried, pad, key_of, notice, aired, kept}
-use Rattle.ledger.specs.Sorted.{insert_all}
+use Rattle.records.specs.Record.{kind, header, pad, key_of, notice}
 use Rattle.board.specs.Rules.{board_of}
 use Rattle.board.specs.WorkingRules.{encode}
-use Rattle.board.specs.Calls.{Handing, Collecting}
+use Rattle.board.specs.Calls.{Handing}
 use Rattle.board.specs.WorkingCalls.{hand_refused}
 use Rattle.offers.specs.Offer.{MessageOffering}
 use Rattle.demands.specs.Calls.{Calls, library}
-use Rattle.demands.specs.Board.{some, message_records}
+use Rattle.demands.specs.Board.{some}
 
 -- ---- messages and boards
 
@@ -75,18 +72,6 @@ one_held = encode 768 (sample_notice "CEM" ∷ [])
 abbrev pub two_due : List ℕ
 two_due = encode 1536 (sample_notice "CEM" ∷ (sample_notice "TOR" ∷ []))
 
--- that notice ends at 18:45 on 5 April 2010
-abbrev pub sample_end : ℕ
-sample_end = 323808300
-
--- its header was handed out
-abbrev pub sample_aired : List ℕ
-sample_aired = aired (sample_dated "CEM")
-
--- a board of three records with these
-abbrev pub three : List (List ℕ) → List ℕ
-three rs = encode 1152 rs
-
 -- the Required Weekly Test of day 065, of two years
 abbrev pub weekly2010 : List ℕ
 weekly2010 = sample_on "2010-03-06" "RWT"
@@ -123,7 +108,6 @@ heading_by heading = record {
   offering = library.offering;
   handing = library.handing;
   listing = library.listing;
-  collecting = library.collecting;
   reading = library.reading;
   writing = library.writing;
 }
@@ -137,7 +121,6 @@ texting_by texting = record {
   offering = library.offering;
   handing = library.handing;
   listing = library.listing;
-  collecting = library.collecting;
   reading = library.reading;
   writing = library.writing;
 }
@@ -151,7 +134,6 @@ in_canada_by canadian = record {
   offering = library.offering;
   handing = library.handing;
   listing = library.listing;
-  collecting = library.collecting;
   reading = library.reading;
   writing = library.writing;
 }
@@ -165,7 +147,6 @@ offering_by offering = record {
   offering = offering;
   handing = library.handing;
   listing = library.listing;
-  collecting = library.collecting;
   reading = library.reading;
   writing = library.writing;
 }
@@ -179,21 +160,6 @@ handing_by handing = record {
   offering = library.offering;
   handing = handing;
   listing = library.listing;
-  collecting = library.collecting;
-  reading = library.reading;
-  writing = library.writing;
-}
-
--- but for its collections
-abbrev pub collecting_by : ((b : List ℕ) (t : ℕ) → Collecting) → Calls
-collecting_by collecting = record {
-  heading = library.heading;
-  texting = library.texting;
-  canadian = library.canadian;
-  offering = library.offering;
-  handing = library.handing;
-  listing = library.listing;
-  collecting = collecting;
   reading = library.reading;
   writing = library.writing;
 }
@@ -245,46 +211,6 @@ forgets_years = handing_by (λ b.
     let given = header (get_or (board_of b) (library.handing b).answer.index []) in
     pick (some (λ r. eqb (kind r) 3 && same (header r) given) (board_of b)) (hand_refused 16 b) (library.handing b))
 
--- a collection that answers 0 leaves these of the filled records instead, in the same room
-abbrev pub leaving_by : ((b : List ℕ) (t : ℕ) → List (List ℕ)) → Calls
-leaving_by left = collecting_by (λ b t.
-    let o = library.collecting b t in record {
-      answer = o.answer;
-      bytes = pick (eqb o.answer.number 0) (encode (length b) (left b t)) o.bytes;
-    })
-
--- a kept time
-abbrev pub is_time : List ℕ → Bool
-is_time r = eqb (kind r) 4
-
--- nothing is dropped: all but an older kept time stay
-abbrev pub drops_nothing : Calls
-drops_nothing = leaving_by (λ b t. passing (λ r. not (is_time r)) (board_of b) ++ (kept t ∷ []))
-
--- an aired record is dropped a second before its end
-abbrev pub drops_aired_early : Calls
-drops_aired_early = leaving_by (λ b t. passing (λ r. not (eqb (kind r) 3 && leb (end_of (carried r)) (t + 1))) (board_of (library.collecting b t).bytes))
-
--- what is over is dropped, and no time is kept
-abbrev pub keeps_no_time : Calls
-keeps_no_time = leaving_by (λ b t. passing (λ r. not (is_time r)) (board_of (library.collecting b t).bytes))
-
--- every collection that answers 0 says that it dropped so many records
-abbrev pub invented_dropped : ℕ → Calls
-invented_dropped count = collecting_by (λ b t.
-    let o = library.collecting b t in record {
-      answer = record { number = o.answer.number; dropped = pick (eqb o.answer.number 0) count 0 };
-      bytes = o.bytes;
-    })
-
--- an offer that answers 0 adds all records of its message, whatever time is kept
-abbrev pub forgets_kept : Calls
-forgets_kept = offering_by (λ b s.
-    let o = library.offering b s in record {
-      answer = o.answer;
-      bytes = pick (eqb o.answer.number 0) (encode (length b) (insert_all (message_records [] s) (board_of b))) o.bytes;
-    })
-
 -- ---- the last
 
 -- each call answers as the library's, whatever it is lent
@@ -295,7 +221,6 @@ pub record SameAnswers (c : Calls) : Type 0 where
   pub offering : (b s : List ℕ) → c.offering b s ≡ library.offering b s
   pub handing : (b : List ℕ) → c.handing b ≡ library.handing b
   pub listing : (b : List ℕ) (rows : ℕ) → c.listing b rows ≡ library.listing b rows
-  pub collecting : (b : List ℕ) (t : ℕ) → c.collecting b t ≡ library.collecting b t
   pub reading : (s : List ℕ) → c.reading s ≡ library.reading s
   pub writing : (d : List ℕ) (p : Parts) → c.writing d p ≡ library.writing d p
 
@@ -308,7 +233,6 @@ careful = record {
   offering = λ b s. library.offering b (take (length s) s);
   handing = library.handing;
   listing = library.listing;
-  collecting = library.collecting;
   reading = λ s. library.reading (s ++ []);
   writing = library.writing;
 }

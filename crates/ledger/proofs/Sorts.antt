@@ -4,7 +4,6 @@
 --     insert-behind               what stands before an insertion
 --     insert-held, insert-new     how an insertion counts
 --     has_in, ascending-sorted    what the tests say
---     in-those, those-sorted      those that pass a test
 use Prim.Native.Nat.{ℕ, zero, suc, ◌≤◌, ◌<◌}
 use mathlib.Core.Bool.{Bool, true, false, not}
 use mathlib.Core.Path.{◌≡◌, refl, sym, ap, ap₂, ◌∙◌, subst}
@@ -15,11 +14,11 @@ use native.Mathlib.Omega.{arith}
 use lib.ListN.{length, get_or}
 use Rattle.octets.specs.declared.Order.{Order}
 use Rattle.octets.specs.declared.Order.TheVariants.{Less, Same, More}
-use Rattle.octets.specs.Bytes.{pick, every}
+use Rattle.octets.specs.Bytes.{every}
 use Rattle.octets.specs.Order.{cmp, choose}
 use Rattle.octets.proofs.Orders.{cmp-refl, cmp-same, cmp-flip, cmp-trans, less-same, more_same, flip}
 use Rattle.octets.proofs.Tests.{every_first, every_rest, every-step, every-none}
-use Rattle.ledger.specs.Sorted.{In, has, Before, Sorted, ascending, insert, insert_all, those}
+use Rattle.ledger.specs.Sorted.{In, has, Before, Sorted, ascending, insert, insert_all}
 
 -- nothing is before itself
 pub not-before-self : {A : Type 0} (a : List ℕ) → cmp a a ≡ Less → A
@@ -38,7 +37,7 @@ in_insert y a (x ∷ xs) = go (cmp a x) refl (in_insert y a xs)
       ⊎_elim (λ p. inr (ih.1 (inl p))) (⊎_elim inl (λ k. inr (ih.1 (inr k)))),
     )
 
-pub in-get : (l : List (List ℕ)) (i : ℕ) → i < length l → In (get_or l i []) l
+in-get : (l : List (List ℕ)) (i : ℕ) → i < length l → In (get_or l i []) l
 in-get [] i h = absurd (omega arith)
 in-get (x ∷ l) zero h = inl refl
 in-get (x ∷ l) (suc i) h = inr (in-get l i (le_of_suc-le-suc h))
@@ -194,38 +193,3 @@ every_in f (y ∷ l) h x m = ⊎_elim (λ p. ap f p ∙ every_first f y l h) (λ
 pub in-every : {A : Type 0} (f : A → Bool) (l : List A) → ((x : A) → In x l → f x ≡ true) → every f l ≡ true
 in-every f [] w = every-none f
 in-every f (y ∷ l) w = every-step f y l (w y (inl refl)) ∙ in-every f l (λ x m. w x (inr m))
-
--- ---- those that pass a test
-
-never : {A : Type 0} → false ≡ true → A
-never e = absurd (let z : ◌≡◌ {A = ℕ} 0 1 = cc in omega arith)
-
-pub in-those : {A : Type 0} (p : A → Bool) (y : A) (l : List A) → In y (those p l) ↔ (In y l × (p y ≡ true))
-in-those p y [] = (absurd, λ w. w.0)
-in-those p y (x ∷ xs) = go (p x) refl (in-those p y xs)
-  where
-    go : (t : Bool) → p x ≡ t → (In y (those p xs) ↔ (In y xs × (p y ≡ true))) → In y (pick t (x ∷ those p xs) (those p xs)) ↔ (((y ≡ x) ⊎ In y xs) × (p y ≡ true))
-    go true e f = (
-      ⊎_elim (λ q. (inl q, ap p q ∙ e)) (λ m. let w = f.0 m in (inr w.0, w.1)),
-      λ w. ⊎_elim inl (λ m. inr (f.1 (m, w.1))) w.0,
-    )
-    go false e f = (
-      λ m. let w = f.0 m in (inr w.0, w.1),
-      λ w. ⊎_elim (λ q. never (sym e ∙ ap p (sym q) ∙ w.1)) (λ m. f.1 (m, w.1)) w.0,
-    )
-
-pub those-sorted : (p : List ℕ → Bool) (l : List (List ℕ)) → Sorted l → Sorted (those p l)
-those-sorted p [] s = tt
-those-sorted p (x ∷ xs) s = go (p x) (those-sorted p xs s.1)
-  where
-    go : (t : Bool) → Sorted (those p xs) → Sorted (pick t (x ∷ those p xs) (those p xs))
-    go true ih = (λ y m. s.0 y ((in-those p y xs).0 m).0, ih)
-    go false ih = ih
-
-pub those-short : {A : Type 0} (p : A → Bool) (l : List A) → length (those p l) ≤ length l
-those-short p [] = omega arith
-those-short p (x ∷ xs) = go (p x) (those-short p xs)
-  where
-    go : (t : Bool) → length (those p xs) ≤ length xs → length (pick t (x ∷ those p xs) (those p xs)) ≤ suc (length xs)
-    go true h = omega arith
-    go false h = omega arith

@@ -1,6 +1,5 @@
 -- Strictly ascending lists of runs of bytes, in byte order.
 use Rattle.std.specs.Prelude.{ℕ, ◌≡◌, ◌⊎◌, Bool, true, false, List, [], ◌∷◌}
-use Rattle.octets.specs.Bytes.{pick}
 use Rattle.octets.specs.declared.Order.TheVariants.{Less}
 use Rattle.octets.specs.Order.{cmp, choose}
 
@@ -37,8 +36,3 @@ insert a (x ∷ xs) = choose (cmp a x) (a ∷ x ∷ xs) (x ∷ xs) (x ∷ insert
 abbrev pub insert_all : List (List ℕ) → List (List ℕ) → List (List ℕ)
 insert_all [] l = l
 insert_all (a ∷ r) l = insert_all r (insert a l)
-
--- those of l that pass p, in their order
-abbrev pub those : {A : Type 0} → (A → Bool) → List A → List A
-those p [] = []
-those p (x ∷ xs) = pick (p x) (x ∷ those p xs) (those p xs)

@@ -1,12 +1,10 @@
--- The board as the strictly ascending list of its filled records: what is due, and what an offer, a hand-out and a collection do to it.
+-- The board as the strictly ascending list of its filled records: what is due, and what an offer and a hand-out do to it.
 -- Headers that records carry, that are due or handed out are with their years; that of an alert is the header alone.
-use Rattle.std.specs.Prelude.{ℕ, zero, suc, ◌+◌, ◌≤◌, ◌<◌, ◌≡◌, Bool, true, not, List, [], ◌∷◌, ◌++◌, map, leb, ltb, eqb, length}
+use Rattle.std.specs.Prelude.{ℕ, zero, suc, ◌≤◌, ◌≡◌, Bool, not, List, [], ◌∷◌, ◌++◌, map, leb, eqb, length}
 use Rattle.octets.specs.Bytes.{pick, every, holds, same}
-use Rattle.clock.specs.Time.{span}
-use Rattle.dated.specs.Dated.{end_of}
-use Rattle.records.specs.Record.{kind, key, sent_in, carried, end_in, over, notice, withdrawal, aired, kept}
+use Rattle.records.specs.Record.{kind, key, carried, notice, withdrawal, aired}
 use Rattle.ledger.specs.declared.Row.{Row}
-use Rattle.ledger.specs.Sorted.{In, has, insert, insert_all, those}
+use Rattle.ledger.specs.Sorted.{In, has, insert, insert_all}
 
 -- ---- what is due
 
@@ -77,47 +75,27 @@ pub record Alert : Type 0 where
 abbrev pub records : Alert → List (List ℕ)
 records a = map (notice a.own) a.carries ++ map withdrawal a.names
 
--- the times kept on b: one, or none
-abbrev pub kept_in : List (List ℕ) → List ℕ
-kept_in [] = []
-kept_in (r ∷ rs) = pick (eqb (kind r) 4) (sent_in (key r) ∷ kept_in rs) (kept_in rs)
-
--- e is after the kept time, or none is kept
-unfoldable pub outlasts : List (List ℕ) → ℕ → Bool
-outlasts b e = every (λ t. ltb t e) (kept_in b)
-
--- an alert as b takes it: without a notice that would end at or before the kept time; its withdrawals still count
-abbrev pub standing : List (List ℕ) → Alert → Alert
-standing b a = record { own = a.own; carries = those (λ h. outlasts b (end_in (notice a.own h))) a.carries; names = a.names }
-
--- the records that b takes of an alert
-abbrev pub taking : List (List ℕ) → Alert → List (List ℕ)
-taking b a = records (standing b a)
-
--- an offer to a board with room for cap records: all of these records, or none where fewer are empty
+-- an offer to a board with room for cap records: all of the message's records, or none where fewer are empty
 abbrev pub offer : ℕ → Alert → List (List ℕ) → List (List ℕ)
-offer cap a b = pick (leb (length (insert_all (taking b a) b)) cap) (insert_all (taking b a) b) b
+offer cap a b = pick (leb (length (insert_all (records a) b)) cap) (insert_all (records a) b) b
 
 -- no offer is refused for room
 abbrev pub Taken : ℕ → List Alert → List (List ℕ) → Type 0
 Taken cap [] b = Unit {0}
-Taken cap (a ∷ r) b = (length (insert_all (taking b a) b) ≤ cap) × Taken cap r (offer cap a b)
+Taken cap (a ∷ r) b = (length (insert_all (records a) b) ≤ cap) × Taken cap r (offer cap a b)
 
--- the fields have their lengths, 132 bytes of sent, sender and identifier and 243 of header, and a notice ends within 100 hours of its sent
+-- the fields have their lengths: 132 bytes of sent, sender and identifier, 243 of header
 pub record Shaped (a : Alert) : Type 0 where
   pub own-long : length a.own ≡ 132
-  pub names-long : (k : List ℕ) → In k a.names → length k ≡ 132
   pub carried-long : (h : List ℕ) → In h a.carries → length h ≡ 243
-  pub soon : (h : List ℕ) → In h a.carries → end_in (notice a.own h) < sent_in a.own + 360000
 
--- the notice of one of l carries the header g and ends after the time kept on b, or none is kept, and none of l names it
-pub record Carried (b : List (List ℕ)) (l : List Alert) (g : List ℕ) : Type 0 where
+-- the notice of one of l carries the header h, and none of l names it
+pub record Carried (l : List Alert) (h : List ℕ) : Type 0 where
   pub by : Alert
   pub taken : In by l
   pub header : List ℕ
   pub has-it : In header by.carries
-  pub carries : carried (notice by.own header) ≡ g
-  pub lasts : outlasts b (end_of g) ≡ true
+  pub carries : carried (notice by.own header) ≡ h
   pub not_named : (a : Alert) → In a l → In by.own a.names → ⊥
 
 -- ---- hand-outs
@@ -143,42 +121,15 @@ abbrev pub hands : ℕ → ℕ → List (List ℕ) → List (List ℕ)
 hands cap zero b = []
 hands cap (suc n) b = (hand_out cap b).given ++ hands cap n (hand_out cap b).board
 
--- ---- collections
-
--- a collection at t drops what is over at t; a kept time gives way to t, and is not one of the dropped
-unfoldable pub drops : ℕ → List ℕ → Bool
-drops t r = every holds (not (eqb (kind r) 4) ∷ leb (over r) t ∷ [])
-
-unfoldable pub stays : ℕ → List ℕ → Bool
-stays t r = every holds (not (eqb (kind r) 4) ∷ ltb t (over r) ∷ [])
-
--- what it leaves: those that stay, and t as the kept time
-abbrev pub collected : ℕ → List (List ℕ) → List (List ℕ)
-collected t b = insert (kept t) (those (stays t) b)
-
--- how many are dropped
-abbrev pub dropped : ℕ → List (List ℕ) → ℕ
-dropped t b = length (those (drops t) b)
-
--- t is a time of the board, and not below the kept one
-unfoldable pub timely : ℕ → List (List ℕ) → Bool
-timely t b = every holds (ltb t span ∷ outlasts b (t + 1) ∷ [])
-
--- a collection of a board with room for cap records: refused where t is not timely, or where there is no room for the first kept time
-abbrev pub collect : ℕ → ℕ → List (List ℕ) → List (List ℕ)
-collect cap t b = pick (every holds (timely t b ∷ leb (length (collected t b)) cap ∷ [])) (collected t b) b
-
--- ---- any mixture of the three
+-- ---- any mixture of the two
 
 pub data Call : Type 0 where
   offered : Alert → Call
   handed_out : Call
-  collected_at : ℕ → Call
 
 abbrev pub step : ℕ → Call → List (List ℕ) → After
 step cap (offered a) b = record { board = offer cap a b; given = [] }
 step cap handed_out b = hand_out cap b
-step cap (collected_at t) b = record { board = collect cap t b; given = [] }
 
 -- the headers that a run of calls hands out, in order
 abbrev pub given : ℕ → List Call → List (List ℕ) → List (List ℕ)
@@ -196,9 +147,8 @@ offers cap l b = ran cap (map offered l) b
 
 -- the alert of a call that is an offer and has room
 abbrev pub taken_by : ℕ → Call → List (List ℕ) → List Alert
-taken_by cap (offered a) b = pick (leb (length (insert_all (taking b a) b)) cap) (a ∷ []) []
+taken_by cap (offered a) b = pick (leb (length (insert_all (records a) b)) cap) (a ∷ []) []
 taken_by cap handed_out b = []
-taken_by cap (collected_at t) b = []
 
 -- the alerts taken by a run of calls
 abbrev pub taken_in : ℕ → List Call → List (List ℕ) → List Alert
@@ -210,11 +160,6 @@ abbrev pub Offered : (Alert → Type 0) → List Call → Type 0
 Offered P [] = Unit {0}
 Offered P (offered a ∷ cs) = P a × Offered P cs
 Offered P (handed_out ∷ cs) = Offered P cs
-Offered P (collected_at t ∷ cs) = Offered P cs
-
--- records have 384 bytes each
-abbrev pub Long : List (List ℕ) → Type 0
-Long b = (r : List ℕ) → In r b → length r ≡ 384
 
 -- no header twice
 abbrev pub Once : List (List ℕ) → Type 0

@@ -17,12 +17,11 @@ use Rattle.judgement.specs.declared.Judged.{Judged}
 use Rattle.records.specs.Record.{record_ok}
 use Rattle.records.proofs.Records.{record-long}
 use Rattle.ledger.specs.Sorted.{In}
-use Rattle.ledger.specs.WorkingBoard.{taking}
+use Rattle.ledger.specs.WorkingBoard.{records}
 use Rattle.ledger.proofs.Sorts.{every_in}
 use Rattle.slots.specs.Slots.{recs}
 use Rattle.slots.specs.WorkingSlots.{flat}
 use Rattle.slots.proofs.Records.{recs-flat, flat-length}
-use Rattle.board.specs.Rules.{board_of}
 use Rattle.board.specs.WorkingRules.{board_ok}
 use Rattle.board.specs.declared.Added.{Added}
 use Rattle.board.specs.WorkingCalls as board
@@ -44,13 +43,13 @@ module _ (s message : List ℕ) where
   offer-message e n = let q = ne_eqb (judged_of message).number 0 n in rw (e, q)
 
   -- an offer of the records asks 1 itself
-  pub offer-zero : (judged_of message).number ≡ 0 → message_offer s message ≡ offer_given (board.offer_of s (records_of (board_of s) message))
+  pub offer-zero : (judged_of message).number ≡ 0 → message_offer s message ≡ offer_given (board.offer_of s (records_of message))
   unfolding message_offer
   offer-zero z = go (board_ok s) refl
     where
-      go : (b : Bool) → board_ok s ≡ b → pick b (pick (eqb (judged_of message).number 0) (offer_given (board.offer_of s (records_of (board_of s) message))) (offer_refused_by (judged_of message).number (judged_of message).field s)) (offer_refused_by 1 0 s) ≡ offer_given (board.offer_of s (records_of (board_of s) message))
+      go : (b : Bool) → board_ok s ≡ b → pick b (pick (eqb (judged_of message).number 0) (offer_given (board.offer_of s (records_of message))) (offer_refused_by (judged_of message).number (judged_of message).field s)) (offer_refused_by 1 0 s) ≡ offer_given (board.offer_of s (records_of message))
       go true e = let q = eq-eqb (judged_of message).number 0 z in rw q
-      go false e = sym (ap offer_given (offer-bad s (records_of (board_of s) message) e))
+      go false e = sym (ap offer_given (offer-bad s (records_of message) e))
 
 -- whatever a message is answered, its number and field are small
 pub judged-small : (s : List ℕ) → ((judged_of s).number ≤ 17) × ((judged_of s).field ≤ 7)
@@ -71,24 +70,24 @@ batch-back rs n x ok few p =
       ap₂ recs m e ∙ recs-flat rs (drop (0 + length (flat rs)) (replicate 6528 0)) long,
     )
 
-module _ (s message : List ℕ) (j : Judged) (e : j ≡ judged_of message) (z : j.number ≡ 0) where
+module _ (message : List ℕ) (j : Judged) (e : j ≡ judged_of message) (z : j.number ≡ 0) where
   zero : (judged_of message).number ≡ 0
   zero = sym (ap (λ (x : Judged). x.number) e) ∙ z
 
-  pub records-are : taking (board_of s) (alert_by message j) ≡ records_of (board_of s) message
+  pub records-are : records (alert_by message j) ≡ records_of message
   unfolding records_of
-  records-are = let q = eq-eqb (judged_of message).number 0 zero in ap (λ (x : Judged). taking (board_of s) (alert_by message x)) e ∙ sym (rw q)
+  records-are = let q = eq-eqb (judged_of message).number 0 zero in ap (λ (x : Judged). records (alert_by message x)) e ∙ sym (rw q)
 
-  module _ (n : ℕ) (x : List ℕ) (p : Put (replicate 6528 0) (taking (board_of s) (alert_by message j)) n x) where
-    back : (n * 384 ≤ length x) × (recs n x ≡ records_of (board_of s) message)
-    back = batch-back (records_of (board_of s) message) n x (records-ok (board_of s) message) (records-few (board_of s) message) (rw records-are at p)
+  module _ (n : ℕ) (x : List ℕ) (p : Put (replicate 6528 0) (records (alert_by message j)) n x) where
+    back : (n * 384 ≤ length x) × (recs n x ≡ records_of message)
+    back = batch-back (records_of message) n x (records-ok message) (records-few message) (rw records-are at p)
 
     pub batch-long : n * 384 ≤ length x
     batch-long = back.0
 
-    pub offer-given : (y : List ℕ) (a : Added) → a ≡ (board.offer_of s (recs n x)).answer → y ≡ (board.offer_of s (recs n x)).bytes →
+    pub offer-given : (s y : List ℕ) (a : Added) → a ≡ (board.offer_of s (recs n x)).answer → y ≡ (board.offer_of s (recs n x)).bytes →
         (◌≡◌ {A = Offered} (record { number = a.number; field = 0; added = a.added }) (message_offer s message).answer) × (y ≡ (message_offer s message).bytes)
-    offer-given y a f g =
+    offer-given s y a f g =
         let q = ap (board.offer_of s) back.1 in
         let o = sym (offer-zero s message zero) in (
           ap (λ (b : Added). record { number = b.number; field = 0; added = b.added }) (f ∙ ap (λ (r : board.Offering). r.answer) q) ∙ ap (λ (r : MessageOffering). r.answer) o,

@@ -2,8 +2,7 @@
 --     notice-laid                                 the notice, from copies in zero-filled fields
 --     group-laid, word_back                       a withdrawal, from a group's parts and from the next word
 --     Putting, put-starts, put_last, put-more     the withdrawals of the references that are left, from record k on
---     put-none, put_ended, put_one                the notice of a message, if the board takes it
---     put_alone, put_both                         and its withdrawals behind it
+--     put-none, put_one, put_alone, put_both      the records of a message
 use Prim.Native.Nat.{ℕ, ◌+◌, ◌-◌, ◌*◌, ◌≤◌, ◌<◌}
 use mathlib.Core.Path.{◌≡◌, refl, sym, ap, ap₂, ◌∙◌, subst}
 use mathlib.Core.Bool.{Bool, true, false, true≢false}
@@ -32,13 +31,11 @@ use Rattle.fields.proofs.Words.{value-words, len_is, next-is, more-is}
 use Rattle.fields.proofs.Lists.{word_room, word_copied}
 use Rattle.judgement.specs.WorkingRules.{asks_references}
 use Rattle.judgement.specs.declared.Judged.{Judged}
-use Rattle.records.specs.Record.{pad, be4, key_of, end_in, notice, withdrawal}
+use Rattle.records.specs.Record.{pad, be4, key_of, notice, withdrawal}
 use Rattle.records.proofs.ZeroFill.{pad-long, pad-whole}
 use Rattle.records.proofs.Making.{laid}
 use Rattle.records.proofs.Records.{record-long}
-use Rattle.ledger.specs.Sorted.{those}
-use Rattle.ledger.specs.WorkingBoard.{outlasts, standing, taking}
-use Rattle.ledger.proofs.Sorts.{those-short}
+use Rattle.ledger.specs.WorkingBoard.{records}
 use Rattle.slots.specs.WorkingSlots.{flat}
 use Rattle.offers.specs.WorkingRecords.{own_references, own_in, zero_filled_header, named_by, alert_by}
 use Rattle.offers.proofs.Taken.{named-good, references-are, map-long, Ready}
@@ -196,47 +193,19 @@ flat_append (r ∷ a) b = ap (λ (l : List ℕ). r ++ l) (flat_append a b) ∙ s
 abbrev pub Put : List ℕ → List (List ℕ) → ℕ → List ℕ → Type 0
 Put d rs n x = (n ≡ length rs) × (x ≡ sets d 0 (flat rs))
 
-module _ (b : List (List ℕ)) (s : List ℕ) (j : Judged) (d : List ℕ) where
-  -- the headers of which the board takes a notice
-  abbrev pub taken : List (List ℕ)
-  taken = (standing b (alert_by s j)).carries
-
+module _ (s : List ℕ) (j : Judged) (d : List ℕ) where
   abbrev pub notices : List (List ℕ)
-  notices = map (notice (own_in s j.message)) taken
+  notices = map (notice (own_in s j.message)) (alert_by s j).carries
 
-  abbrev own : List ℕ
-  own = notice (own_in s j.message) (zero_filled_header j)
-
-  pub taken-few : Ready s j → length taken ≤ 1
-  taken-few r = omega (arith, those-short (λ h. outlasts b (end_in (notice (alert_by s j).own h))) (alert_by s j).carries, r.one)
-
-  -- where it is quiet or not, and where its notice lasts or not
-  taken_is : (q l : Bool) → j.quiet ≡ q → outlasts b (end_in own) ≡ l → taken ≡ pick q [] (pick l (zero_filled_header j ∷ []) [])
+  pub put-none : j.quiet ≡ true → (0 ≡ length (alert_by s j).carries) × (d ≡ sets d 0 (flat notices))
   unfolding alert_by
-  taken_is q l e f = ap (λ (x : Bool). those lasting (pick x [] (zero_filled_header j ∷ []))) e ∙ go q
-    where
-      lasting : List ℕ → Bool
-      lasting h = outlasts b (end_in (notice (own_in s j.message) h))
+  put-none q = (rw q, rw q)
 
-      go : (x : Bool) → those lasting (pick x [] (zero_filled_header j ∷ [])) ≡ pick x [] (pick l (zero_filled_header j ∷ []) [])
-      go true = refl
-      go false = ap (λ (y : Bool). pick y (zero_filled_header j ∷ []) []) f
+  pub put_one_lem : (r x : List ℕ) → j.quiet ≡ false → r ≡ notice (own_in s j.message) (zero_filled_header j) → x ≡ sets d 0 r → (1 ≡ length (alert_by s j).carries) × (x ≡ sets d 0 (flat notices))
+  unfolding alert_by zero_filled_header
+  put_one_lem r x q e p = (rw q, rw q (p ∙ ap (sets d 0) (e ∙ sym (append-nil (notice (own_in s j.message) (zero_filled_header j))))))
 
-  -- what is put where these headers are taken
-  put-taken : (hs : List (List ℕ)) (x : List ℕ) → taken ≡ hs → x ≡ sets d 0 (flat (map (notice (own_in s j.message)) hs)) → (length hs ≡ length taken) × (x ≡ sets d 0 (flat notices))
-  put-taken hs x e p = (ap length (sym e), p ∙ ap (λ (l : List (List ℕ)). sets d 0 (flat (map (notice (own_in s j.message)) l))) (sym e))
-
-  pub put-none : j.quiet ≡ true → (0 ≡ length taken) × (d ≡ sets d 0 (flat notices))
-  put-none q = put-taken [] d (taken_is true (outlasts b (end_in own)) q refl) refl
-
-  pub put_ended : (r : List ℕ) → j.quiet ≡ false → r ≡ own → outlasts b (end_in r) ≡ false → (0 ≡ length taken) × (d ≡ sets d 0 (flat notices))
-  put_ended r q e l = put-taken [] d (taken_is false false q (ap (λ (x : List ℕ). outlasts b (end_in x)) (sym e) ∙ l)) refl
-
-  pub put_one_lem : (r x : List ℕ) → j.quiet ≡ false → r ≡ own → outlasts b (end_in r) ≡ true → x ≡ sets d 0 r → (1 ≡ length taken) × (x ≡ sets d 0 (flat notices))
-  put_one_lem r x q e l p =
-      put-taken (zero_filled_header j ∷ []) x (taken_is false true q (ap (λ (y : List ℕ). outlasts b (end_in y)) (sym e) ∙ l)) (p ∙ ap (sets d 0) (e ∙ sym (append-nil own)))
-
-  records-are : taking b (alert_by s j) ≡ notices ++ map withdrawal (alert_by s j).names
+  records-are : records (alert_by s j) ≡ notices ++ map withdrawal (alert_by s j).names
   unfolding alert_by
   records-are = refl
 
@@ -244,26 +213,23 @@ module _ (b : List (List ℕ)) (s : List ℕ) (j : Judged) (d : List ℕ) where
   unfolding alert_by
   names-are q = rw q
 
-  notices-long : Ready s j → length (flat notices) ≡ length taken * 384
-  notices-long r = go j.quiet refl (outlasts b (end_in own)) refl
+  notices-long : Ready s j → length (flat notices) ≡ length (alert_by s j).carries * 384
+  unfolding alert_by
+  notices-long r = go j.quiet refl
     where
-      of : (hs : List (List ℕ)) → taken ≡ hs → length (flat (map (notice (own_in s j.message)) hs)) ≡ length hs * 384 → length (flat notices) ≡ length taken * 384
-      of hs e h = subst (λ (l : List (List ℕ)). length (flat (map (notice (own_in s j.message)) l)) ≡ length l * 384) (sym e) h
+      go : (q : Bool) → j.quiet ≡ q → length (flat (map (notice (own_in s j.message)) (pick q [] (zero_filled_header j ∷ [])))) ≡ length (pick q [] (zero_filled_header j ∷ [])) * 384
+      go true e = omega arith
+      go false e = ap length (append-nil (notice (own_in s j.message) (zero_filled_header j))) ∙ record-long (notice (own_in s j.message) (zero_filled_header j)) (r.notice e)
 
-      go : (q : Bool) → j.quiet ≡ q → (l : Bool) → outlasts b (end_in own) ≡ l → length (flat notices) ≡ length taken * 384
-      go true e l f = of [] (taken_is true l e f) (omega arith)
-      go false e false f = of [] (taken_is false false e f) (omega arith)
-      go false e true f = of (zero_filled_header j ∷ []) (taken_is false true e f) (ap length (append-nil own) ∙ record-long own (r.notice e))
-
-  module _ (n : ℕ) (x : List ℕ) (t : n ≡ length taken) (p : x ≡ sets d 0 (flat notices)) where
+  module _ (n : ℕ) (x : List ℕ) (t : n ≡ length (alert_by s j).carries) (p : x ≡ sets d 0 (flat notices)) where
     pub as_long : length x ≡ length d
     as_long = ap length p ∙ length-sets d 0 (flat notices)
 
-    pub put_alone : asks_references j.message.msg_type ≡ false → Put d (taking b (alert_by s j)) n x
+    pub put_alone : asks_references j.message.msg_type ≡ false → Put d (records (alert_by s j)) n x
     unfolding alert_by
-    put_alone q = rw (q, append-nil) (t ∙ sym (map-long (notice (own_in s j.message)) taken), p)
+    put_alone q = rw (q, append-nil) (t ∙ sym (map-long (notice (own_in s j.message)) (alert_by s j).carries), p)
 
-    pub put_both : Ready s j → (m : ℕ) (y : List ℕ) → asks_references j.message.msg_type ≡ true → m ≡ n + length (words (own_references s j.message)) → y ≡ sets x (n * 384) (withdrawals (words (own_references s j.message))) → Put d (taking b (alert_by s j)) m y
+    pub put_both : Ready s j → (m : ℕ) (y : List ℕ) → asks_references j.message.msg_type ≡ true → m ≡ n + length (words (own_references s j.message)) → y ≡ sets x (n * 384) (withdrawals (words (own_references s j.message))) → Put d (records (alert_by s j)) m y
     put_both r m y q c e =
         let ws = words (own_references s j.message) in
         let rest = map withdrawal (map named_by ws) in
@@ -274,7 +240,7 @@ module _ (b : List (List ℕ)) (s : List ℕ) (j : Judged) (d : List ℕ) where
             arith,
             c,
             t,
-            map-long (notice (own_in s j.message)) taken,
+            map-long (notice (own_in s j.message)) (alert_by s j).carries,
             length-append notices (map withdrawal (alert_by s j).names),
             ap length k,
             map-long withdrawal (map named_by ws),

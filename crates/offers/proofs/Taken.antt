@@ -1,8 +1,8 @@
 -- A message that answers 0: its values keep their rules, and so do its records.
 --     sound                       its sender, identifier and references
---     shaped                      what it leaves has the lengths of a record's fields, and its notice ends within 100 hours
+--     shaped                      what it leaves has the lengths of a record's fields
 --     records-ok, records-few     its records keep theirs, and are 17 at most
-use Prim.Native.Nat.{ℕ, zero, suc, ◌+◌, ◌≤◌, ◌<◌}
+use Prim.Native.Nat.{ℕ, zero, suc, ◌≤◌, ◌<◌}
 use mathlib.Core.Path.{◌≡◌, refl, sym, ap, ◌∙◌, subst}
 use mathlib.Core.Logic.{⊎_elim}
 use mathlib.Core.Bool.{Bool, true, false, ◌&&◌}
@@ -43,15 +43,12 @@ use Rattle.judgement.specs.WorkingJudged.{body_with, judged_of}
 use Rattle.judgement.specs.declared.Judged.{Judged}
 use Rattle.judgement.proofs.Answers.{passed}
 use Rattle.judgement.proofs.Bodies.{alerting, alert-body, body_ok_lem, message-kept}
-use Rattle.records.specs.Record.{sent_in, record_ok, end_in, notice, withdrawal}
+use Rattle.records.specs.Record.{record_ok, notice, withdrawal}
 use Rattle.records.proofs.ZeroFill.{pad-long}
 use Rattle.records.proofs.Stamps.{stamp-read}
-use Rattle.records.proofs.Records.{key-of-long, key-notice, kind-notice, notice-ok, withdrawal-ok}
-use Rattle.records.proofs.Carried.{ends-soon}
-use Rattle.ledger.specs.Sorted.{In, those}
-use Rattle.ledger.specs.WorkingBoard.{records, outlasts, taking, Shaped}
-use Rattle.ledger.proofs.Sorts.{in_map, every_in, in-every, those-short}
-use Rattle.ledger.proofs.Kept.{taking-records}
+use Rattle.records.proofs.Records.{key-of-long, notice-ok, withdrawal-ok}
+use Rattle.ledger.specs.Sorted.{In}
+use Rattle.ledger.specs.WorkingBoard.{records, Shaped}
 use Rattle.offers.specs.WorkingRecords.{own_identifier, own_references, own_sender, own_in, zero_filled_header, named_by, alert_by, records_of}
 
 -- ---- its values
@@ -145,10 +142,6 @@ pub named-good : (w : List ℕ) → group_ok w ≡ true → record_ok (withdrawa
 unfolding group_ok named_by
 named-good w h = let t = each_of (group_tests w) h in withdrawal-ok (instant_in (time_of (sent_of w))) (sender_of w) (identifier_of w) (instant-low (sent_of w)) t.0 t.1.0
 
-named-long : (w : List ℕ) → group_ok w ≡ true → length (named_by w) ≡ 132
-unfolding group_ok named_by
-named-long w h = let t = each_of (group_tests w) h in key-of-long _ _ _ (identity-short _ t.0) (identity-short _ t.1.0)
-
 withdrawals-good : (ws : List (List ℕ)) → every group_ok ws ≡ true → every record_ok (map withdrawal (map named_by ws)) ≡ true
 withdrawals-good [] h = every-none record_ok
 withdrawals-good (w ∷ ws) h = every-step record_ok _ _ (named-good w (every_first group_ok w ws h)) ∙ withdrawals-good ws (every_rest group_ok w ws h)
@@ -170,7 +163,7 @@ module _ (s : List ℕ) (zero : (judged_of s).number ≡ 0) where
   names-good true e = withdrawals-good (words (own_references s (judged_of s).message)) (references-are _ ((sound s zero).references e)).1
   names-good false e = every-none record_ok
 
-  pub alert-good : every record_ok (records (alert_by s (judged_of s))) ≡ true
+  alert-good : every record_ok (records (alert_by s (judged_of s))) ≡ true
   unfolding alert_by
   alert-good = every_append record_ok _ _ (notices-good (judged_of s).quiet refl) (names-good (asks_references (judged_of s).message.msg_type) refl)
 
@@ -193,67 +186,33 @@ module _ (s : List ℕ) (zero : (judged_of s).number ≡ 0) where
       go true e = let l = map-long named_by ws in let k = (references-are _ ((sound s zero).references e)).0 in omega arith
       go false e = omega arith
 
-  -- what a board takes of it
-  taking-good : (b : List (List ℕ)) → every record_ok (taking b (alert_by s (judged_of s))) ≡ true
-  taking-good b = in-every record_ok _ (λ r m. every_in record_ok _ alert-good r (taking-records b r (alert_by s (judged_of s)) m))
-
-  taking-few : (b : List (List ℕ)) → length (taking b (alert_by s (judged_of s))) ≤ 17
-  taking-few b =
+  alert-few : length (records (alert_by s (judged_of s))) ≤ 17
+  alert-few =
       let a = alert_by s (judged_of s) in
-      let lasting : List ℕ → Bool = λ h. outlasts b (end_in (notice a.own h)) in
-      omega (
-        arith,
-        length-append (map (notice a.own) (those lasting a.carries)) (map withdrawal a.names),
-        map-long (notice a.own) (those lasting a.carries),
-        map-long withdrawal a.names,
-        those-short lasting a.carries,
-        carries-few,
-        names-few,
-      )
-
-  -- a header that it carries is its own, and its message is not quiet
-  own-header : (h : List ℕ) → In h (alert_by s (judged_of s)).carries → ((judged_of s).quiet ≡ false) × (h ≡ zero_filled_header (judged_of s))
-  unfolding alert_by
-  own-header h = go (judged_of s).quiet refl
-    where
-      go : (q : Bool) → (judged_of s).quiet ≡ q → In h (pick q [] (zero_filled_header (judged_of s) ∷ [])) → ((judged_of s).quiet ≡ false) × (h ≡ zero_filled_header (judged_of s))
-      go true e i = absurd i
-      go false e i = ⊎_elim (λ p. (e, p)) absurd i
-
-  own-soon : (judged_of s).quiet ≡ false → end_in (notice (own_in s (judged_of s).message) (zero_filled_header (judged_of s))) < sent_in (own_in s (judged_of s).message) + 360000
-  own-soon loud =
-      let n = notice (own_in s (judged_of s).message) (zero_filled_header (judged_of s)) in
-      subst (λ (k : List ℕ). end_in n < sent_in k + 360000) (key-notice _ _ (own-long s zero)) (ends-soon n (notice-good s zero loud) (kind-notice _ _))
-
-  keys-long : (q : Bool) → asks_references (judged_of s).message.msg_type ≡ q → (k : List ℕ) → In k (pick q (map named_by (words (own_references s (judged_of s).message))) []) → length k ≡ 132
-  keys-long true e k i =
-      let ws = words (own_references s (judged_of s).message) in
-      let w = (in_map named_by k ws).0 i in
-      ap length w.2 ∙ named-long w.0 (every_in group_ok ws (references-are _ ((sound s zero).references e)).1 w.0 w.1)
-  keys-long false e k i = absurd i
+      omega (arith, length-append (map (notice a.own) a.carries) (map withdrawal a.names), map-long (notice a.own) a.carries, map-long withdrawal a.names, carries-few, names-few)
 
   pub shaped : Shaped (alert_by s (judged_of s))
-  shaped = record {
-    own-long = unfold alert_by in own-long s zero;
-    names-long = unfold alert_by in keys-long (asks_references (judged_of s).message.msg_type) refl;
-    carried-long = λ h i. let w = own-header h i in ap length w.1 ∙ header-long s zero w.0;
-    soon = λ h i. let w = own-header h i in unfold alert_by in (subst (λ (x : List ℕ). end_in (notice (own_in s (judged_of s).message) x) < sent_in (own_in s (judged_of s).message) + 360000) (sym w.1) (own-soon w.0));
-  }
+  unfolding alert_by
+  shaped = record { own-long = own-long s zero; carried-long = go (judged_of s).quiet refl }
+    where
+      go : (q : Bool) → (judged_of s).quiet ≡ q → (h : List ℕ) → In h (pick q [] (zero_filled_header (judged_of s) ∷ [])) → length h ≡ 243
+      go true e h i = absurd i
+      go false e h i = ⊎_elim (λ p. ap length p ∙ header-long s zero e) absurd i
 
-pub records-ok : (b : List (List ℕ)) (s : List ℕ) → every record_ok (records_of b s) ≡ true
+pub records-ok : (s : List ℕ) → every record_ok (records_of s) ≡ true
 unfolding records_of
-records-ok b s = go (eqb (judged_of s).number 0) refl
+records-ok s = go (eqb (judged_of s).number 0) refl
   where
-    go : (x : Bool) → eqb (judged_of s).number 0 ≡ x → every record_ok (pick x (taking b (alert_by s (judged_of s))) []) ≡ true
-    go true e = taking-good s (eqb-true (judged_of s).number 0 e) b
+    go : (b : Bool) → eqb (judged_of s).number 0 ≡ b → every record_ok (pick b (records (alert_by s (judged_of s))) []) ≡ true
+    go true e = alert-good s (eqb-true (judged_of s).number 0 e)
     go false e = every-none record_ok
 
-pub records-few : (b : List (List ℕ)) (s : List ℕ) → length (records_of b s) ≤ 17
+pub records-few : (s : List ℕ) → length (records_of s) ≤ 17
 unfolding records_of
-records-few b s = go (eqb (judged_of s).number 0) refl
+records-few s = go (eqb (judged_of s).number 0) refl
   where
-    go : (x : Bool) → eqb (judged_of s).number 0 ≡ x → length (pick x (taking b (alert_by s (judged_of s))) []) ≤ 17
-    go true e = taking-few s (eqb-true (judged_of s).number 0 e) b
+    go : (b : Bool) → eqb (judged_of s).number 0 ≡ b → length (pick b (records (alert_by s (judged_of s))) []) ≤ 17
+    go true e = alert-few s (eqb-true (judged_of s).number 0 e)
     go false e = omega arith
 
 -- ---- the same of a judgement
@@ -266,6 +225,7 @@ pub record Ready (s : List ℕ) (j : Judged) : Type 0 where
   pub header : j.quiet ≡ false → length (body_bytes j.body) ≤ 243
   pub notice : j.quiet ≡ false → record_ok (notice (own_in s j.message) (zero_filled_header j)) ≡ true
   pub one : length (alert_by s j).carries ≤ 1
+  pub few : length (records (alert_by s j)) ≤ 17
 
 pub ready : (s : List ℕ) (j : Judged) → j ≡ judged_of s → j.number ≡ 0 → Ready s j
 ready s j e z = subst (Ready s) (sym e) (of-judged (sym (ap (λ (x : Judged). x.number) e) ∙ z))
@@ -281,4 +241,5 @@ ready s j e z = subst (Ready s) (sym e) (of-judged (sym (ap (λ (x : Judged). x.
           header = λ q. (body-long _ (form s n q)).1;
           notice = λ q. notice-good s n q;
           one = carries-few s n;
+          few = alert-few s n;
         }

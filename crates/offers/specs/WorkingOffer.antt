@@ -2,7 +2,6 @@
 use Rattle.std.specs.Prelude.{ℕ, List, eqb}
 use Rattle.octets.specs.Bytes.{pick}
 use Rattle.judgement.specs.WorkingJudged.{judged_of}
-use Rattle.board.specs.Rules.{board_of}
 use Rattle.board.specs.WorkingRules.{board_ok}
 use Rattle.board.specs.WorkingCalls as board
 use Rattle.offers.specs.WorkingRecords.{records_of}
@@ -19,5 +18,5 @@ offer_given o = record { answer = record { number = o.answer.number; field = 0; 
 unfoldable pub message_offer : List ℕ → List ℕ → MessageOffering
 message_offer s message =
     pick (board_ok s)
-    (pick (eqb (judged_of message).number 0) (offer_given (board.offer_of s (records_of (board_of s) message))) (offer_refused_by (judged_of message).number (judged_of message).field s))
+    (pick (eqb (judged_of message).number 0) (offer_given (board.offer_of s (records_of message))) (offer_refused_by (judged_of message).number (judged_of message).field s))
     (offer_refused_by 1 0 s)

@@ -1,4 +1,4 @@
--- The records that an offer of a message adds: the notice (unless quiet, or ended at the kept time) and one withdrawal per reference of an Update or Cancel.
+-- The records that an offer of a message adds: the notice (unless quiet) and one withdrawal per reference of an Update or Cancel.
 use Rattle.std.specs.Prelude.{ℕ, List, [], ◌∷◌, map, eqb}
 use Rattle.octets.specs.Bytes.{pick}
 use Rattle.clock.specs.Time.{time_of, instant_in}
@@ -11,7 +11,7 @@ use Rattle.judgement.specs.WorkingRules.{asks_references}
 use Rattle.judgement.specs.WorkingJudged.{judged_of}
 use Rattle.judgement.specs.declared.Judged.{Judged}
 use Rattle.records.specs.Record.{pad, key_of}
-use Rattle.ledger.specs.WorkingBoard.{Alert, taking}
+use Rattle.ledger.specs.WorkingBoard.{Alert, records}
 
 abbrev pub own_identifier : List ℕ → Message → List ℕ
 own_identifier s m = value_at s (identifier_leaf m.alert).at
@@ -42,6 +42,6 @@ alert_by s j = record {
   names = pick (asks_references j.message.msg_type) (map named_by (words (own_references s j.message))) [];
 }
 
--- the records that a board takes of a message; none where it is refused
-unfoldable pub records_of : List (List ℕ) → List ℕ → List (List ℕ)
-records_of b s = pick (eqb (judged_of s).number 0) (taking b (alert_by s (judged_of s))) []
+-- the records of a message; none where it is refused
+unfoldable pub records_of : List ℕ → List (List ℕ)
+records_of s = pick (eqb (judged_of s).number 0) (records (alert_by s (judged_of s))) []

@@ -6,10 +6,9 @@ ghost use Rattle.fields.specs.WorkingFields.{group_ok, references_ok};
 ghost use Rattle.fields.specs.References.{words};
 ghost use Rattle.fields.specs.WorkingWords.{word_in, word_at};
 ghost use Rattle.judgement.specs.WorkingJudged.{judged_of};
-ghost use Rattle.records.specs.Record.{kind, record_ok, end_in, notice, withdrawal};
-ghost use Rattle.ledger.specs.WorkingBoard.{outlasts, standing, taking};
+ghost use Rattle.records.specs.Record.{notice, withdrawal};
+ghost use Rattle.ledger.specs.WorkingBoard.{records};
 ghost use Rattle.slots.specs.WorkingSlots.{flat};
-ghost use Rattle.board.specs.Rules.{board_of};
 ghost use Rattle.offers.specs.WorkingRecords.{own_in, zero_filled_header, named_by, alert_by};
 ghost use Rattle.offers.specs.WorkingOffer.{message_offer};
 
@@ -94,41 +93,30 @@ fn notice_by(s: &[u8], j: Judged) -> Record
     Record::notice(m.sent, &by, &called, &head)
 }
 
-// Whether a notice ends after the time kept on the board b, or none is kept.
-fn lasts(b: &[u8], r: &[u8]) -> bool
-    requires { (record_ok r.now ≡ true) × (kind r.now ≡ 1) }
-    ensures { result ≡ outlasts (board_of b.now) (end_in r.now) }
-{
-    slots::outlasts(b, board::filled(b), records::over_at(r))
-}
-
-// Puts the notice, unless the message is quiet or has ended at the time kept on the board b, and says how many records there are then.
-fn put_notice(b: &[u8], s: &[u8], j: Judged, batch: &mut [u8]) -> usize
+// Puts the notice, unless the message is quiet, and says how many records there are then.
+fn put_notice(s: &[u8], j: Judged, batch: &mut [u8]) -> usize
     requires { (j ≡ judged_of s.now) × (j.number ≡ 0) × (17 * 384 ≤ length batch.old) }
-    ensures value { result ≡ length (standing (board_of b.now) (alert_by s.now j)).carries }
-    ensures batch_after { batch.new ≡ sets batch.old 0 (flat (map (notice (own_in s.now j.message)) (standing (board_of b.now) (alert_by s.now j)).carries)) }
+    ensures value { result ≡ length (alert_by s.now j).carries }
+    ensures batch_after { batch.new ≡ sets batch.old 0 (flat (map (notice (own_in s.now j.message)) (alert_by s.now j).carries)) }
 {
     if j.quiet {
         return 0;
     }
     let r = notice_by(s, j);
     let bytes = r.bytes;
-    if !lasts(b, &bytes) {
-        return 0;
-    }
     octets::put_bytes(batch, 0, &bytes);
     1
 }
 
 // ---- the records of a message
 
-// Puts the records that the board b takes of a message that answers 0, and says how many there are.
-fn put_records(b: &[u8], s: &[u8], j: Judged, batch: &mut [u8]) -> usize
+// Puts the records of a message that answers 0, and says how many there are.
+fn put_records(s: &[u8], j: Judged, batch: &mut [u8]) -> usize
     requires { (j ≡ judged_of s.now) × (j.number ≡ 0) × (17 * 384 ≤ length batch.old) }
-    ensures value { result ≡ length (taking (board_of b.now) (alert_by s.now j)) }
-    ensures batch_after { batch.new ≡ sets batch.old 0 (flat (taking (board_of b.now) (alert_by s.now j))) }
+    ensures value { result ≡ length (records (alert_by s.now j)) }
+    ensures batch_after { batch.new ≡ sets batch.old 0 (flat (records (alert_by s.now j))) }
 {
-    let n = put_notice(b, s, j, batch);
+    let n = put_notice(s, j, batch);
     let m = j.message;
     let t = m.msg_type;
     if !judgement::asks_references(t) {
@@ -149,7 +137,7 @@ fn offer_records(s: &mut [u8], message: &[u8], j: Judged) -> Offered
     ensures number_bound { (result.number ≤ 17) × (result.field ≤ 7) × (result.added ≤ 170) }
 {
     let mut batch = [0u8; 17 * Record::SIZE];
-    let m = put_records(s, message, j, &mut batch);
+    let m = put_records(message, j, &mut batch);
     let a = board::offer_records(s, &batch, m);
     Offered {
         number: a.number,

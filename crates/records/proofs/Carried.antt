@@ -4,35 +4,27 @@
 --     carried-is, carried_other, ..     that of a notice, and of another record
 --     front-is                          it begins with the record's header
 --     airs-ok                           the aired record of what a notice carries keeps its rules
---     carries-dated, carrying           what a notice and an aired record carry keeps its rules
---     end_is, ends-soon                 a notice ends within 100 hours of its sent
 use Prim.Native.Nat.{ℕ, suc, ◌+◌, ◌*◌, ◌/◌, ◌%◌, ◌≤◌, ◌<◌}
 use mathlib.Core.Bool.{Bool, true}
-use mathlib.Core.Logic.{◌⊎◌, inl, inr, ⊎_elim}
 use mathlib.Core.List.{List, ◌++◌}
 use mathlib.Core.Path.{◌≡◌, sym, ap, ap₂, ◌∙◌}
 use native.Mathlib.Omega.{arith}
-use native.Mathlib.Decide.{dec_lt}
 use borrow.Author.Tests.{le-leb, ne_eqb}
 use lib.Dec.{eqb, leb}
 use lib.ListN.{length, drop, get_or, length-append}
 use lib.Seq.{take_at, take-take, get_or-append-add}
-use Rattle.octets.specs.Bytes.{pick, between, same}
+use Rattle.octets.specs.Bytes.{pick, between}
 use Rattle.octets.proofs.Tests.{each_of, every_of, between_is, either_way}
 use Rattle.octets.proofs.Parts.{length_part}
 use Rattle.clock.specs.Calendar.{year_days, days_to}
 use Rattle.clock.specs.Time.{span}
-use Rattle.clock.specs.Stamp.{begun, year_of, stamp_of, stamped, instant_of}
+use Rattle.clock.specs.Stamp.{begun, year_of, stamp_of}
 use Rattle.clock.proofs.Calendar.{days-to-2000, days-to-after}
-use Rattle.clock.proofs.Stamps.{stamp-fits, minute-back}
-use Rattle.parts.proofs.Has.{has}
-use Rattle.parts.proofs.Periods.{period-high}
-use Rattle.header.specs.Body.{body_form}
-use Rattle.header.proofs.ReadThenWrite.{body_ok_lem}
-use Rattle.dated.specs.Dated.{header_of, year_in, body_in, end_of, be2, filled_in, filled_tests, zero_filled, header_ok, dated_tests, dated_ok}
-use Rattle.records.specs.Record.{kind, key, sent_in, header, aired_in, dated, carried, end_in, stamp_in, record_ok, notice, aired}
+use Rattle.clock.proofs.Stamps.{stamp-fits}
+use Rattle.header.specs.Body.{body_form, body_of}
+use Rattle.records.specs.Record.{kind, key, sent_in, header, aired_in, header_of, year_in, be2, dated, carried, filled_in, filled_tests, zero_filled, header_ok, stamp_in, dated_tests, dated_ok, record_ok, notice, aired}
 use Rattle.records.proofs.Stamps.{stamp-told}
-use Rattle.records.proofs.Records.{record-long, record-kind, of-notice, of-aired, key-low, key-notice, header-notice, kind-notice, header-long, made-aired}
+use Rattle.records.proofs.Records.{record-long, of-notice, key-low, key-notice, header-notice, kind-notice, header-long, made-aired}
 
 -- ---- what it is made of
 
@@ -99,15 +91,13 @@ module _ (r : List ℕ) (rule : record_ok r ≡ true) (e : kind r ≡ 1) where
   low : sent_in (key r) < span
   low = key-low (key r) (of-notice r rule e).0
 
-  form : body_form (filled_in (header_of (carried r))) ≡ true
-  unfolding header_ok zero_filled
-  form = ap (λ (h : List ℕ). body_form (filled_in h)) header_is ∙ (each_of (filled_tests body_form (header r)) (of-notice r rule e).1.0).0
-
-  -- its day, hour and minute are those of its sent
-  told : ((body_in (carried r)).day ≡ (stamp_of (sent_in (key r))).day) × ((body_in (carried r)).hour ≡ (stamp_of (sent_in (key r))).hour) × ((body_in (carried r)).minute ≡ (stamp_of (sent_in (key r))).minute)
-  unfolding stamp_in
-  told =
-      stamp-told (filled_in (header_of (carried r))) (sent_in (key r)) form low (ap (λ (h : List ℕ). same (stamp_in h) (stamped (sent_in (key r)))) header_is ∙ (of-notice r rule e).1.1.0)
+  -- its day is that of its sent
+  day-is : (body_of (filled_in (header_of (carried r)))).day ≡ (stamp_of (sent_in (key r))).day
+  unfolding header_ok stamp_in zero_filled
+  day-is =
+      let t = of-notice r rule e in
+      let form : body_form (filled_in (header r)) ≡ true = (each_of (filled_tests body_form (header r)) t.1.0).0 in
+      ap (λ (h : List ℕ). (body_of (filled_in h)).day) header_is ∙ (stamp-told (filled_in (header r)) (sent_in (key r)) form low t.1.1.0).0
 
   year-is : year_in (carried r) ≡ (stamp_of (sent_in (key r))).year
   year-is = ap year_in (carried-is r e) ∙ year-dated (key r) (header r) (header-long r (record-long r rule)) low
@@ -119,32 +109,8 @@ module _ (r : List ℕ) (rule : record_ok r ≡ true) (e : kind r ≡ 1) where
       let f = stamp-fits (sent_in (key r)) low in
       every_of (dated_tests (carried r)) (
         ap header_ok header_is ∙ (of-notice r rule e).1.0,
-        (ap (between 2000 2099) year-is ∙ between_is 2000 2099 y f.first f.last, (ap₂ (λ (d n : ℕ). leb d (year_days n)) told.0 year-is ∙ le-leb (stamp_of (sent_in (key r))).day (year_days y) f.there, tt)),
+        (ap (between 2000 2099) year-is ∙ between_is 2000 2099 y f.first f.last, (ap₂ (λ (d n : ℕ). leb d (year_days n)) day-is year-is ∙ le-leb (stamp_of (sent_in (key r))).day (year_days y) f.there, tt)),
       )
 
   pub airs-ok : record_ok (aired (carried r)) ≡ true
   airs-ok = made-aired (carried r) (carried-long r (record-long r rule)) dated-kept
-
-  -- its end is the minute of its sent, plus its period
-  pub end_is : end_in r + sent_in (key r) % 60 ≡ sent_in (key r) + (body_in (carried r)).period * 60
-  unfolding end_of
-  end_is =
-      let i : instant_of (year_in (carried r)) (body_in (carried r)).day ((body_in (carried r)).hour * 3600 + (body_in (carried r)).minute * 60)
-      ≡ instant_of (stamp_of (sent_in (key r))).year (stamp_of (sent_in (key r))).day ((stamp_of (sent_in (key r))).hour * 3600 + (stamp_of (sent_in (key r))).minute * 60)
-      = λ j. instant_of (year-is j) (told.0 j) (told.1 j * 3600 + told.2 j * 60) in
-      omega (arith, i, minute-back (sent_in (key r)) low)
-
-  pub ends-soon : end_in r < sent_in (key r) + 360000
-  ends-soon = omega (arith, end_is, period-high (body_in (carried r)).period (has (body_in (carried r)) (body_ok_lem (filled_in (header_of (carried r))) form)).period)
-
--- what the end of a notice and of an aired record is worked out from keeps its rules
-pub carries-dated : (r : List ℕ) → record_ok r ≡ true → (kind r ≡ 1) ⊎ (kind r ≡ 3) → dated_ok (carried r) ≡ true
-carries-dated r rule k = ⊎_elim (dated-kept r rule) (λ e. ap dated_ok (carried_other r (λ o. let z = sym o ∙ e in omega arith)) ∙ (of-aired r rule e).1.0) k
-
--- one of the two is any record but a withdrawal and a kept time
-pub carrying : (r : List ℕ) → record_ok r ≡ true → (kind r ≡ 2 → ⊥) → (kind r ≡ 4 → ⊥) → dated_ok (carried r) ≡ true
-carrying r rule two four = go (dec_lt (kind r) 2)
-  where
-    go : Dec (kind r < 2) → dated_ok (carried r) ≡ true
-    go (yes l) = carries-dated r rule (inl (omega (arith, record-kind r rule)))
-    go (no l) = carries-dated r rule (inr (omega (arith, record-kind r rule)))

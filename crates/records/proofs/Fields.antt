@@ -9,9 +9,8 @@ use lib.ListN.{length, drop, replicate, drop_of_length-le, replicate-append-repl
 use Rattle.octets.specs.Bytes.{part}
 use Rattle.octets.proofs.Tests.{Each, each_of}
 use Rattle.octets.proofs.Parts.{length_part, cut, tail_step}
-use Rattle.dated.specs.Dated.{zeros}
-use Rattle.records.specs.Record.{kind, key, header, rest, aired_in, behind, carried, kind_tests, record_ok, withdrawal, aired}
-use Rattle.dated.proofs.Zeros.{zeros-are}
+use Rattle.records.specs.Record.{kind, key, header, rest, aired_in, behind, carried, zeros, kind_tests, record_ok, withdrawal, aired}
+use Rattle.records.proofs.ZeroFill.{zeros-are}
 use Rattle.records.proofs.Records.{record-long, kind-decides}
 use Rattle.records.proofs.Carried.{carried_other}
 

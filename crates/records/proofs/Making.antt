@@ -7,8 +7,7 @@ use lib.ListN.{length, take, drop, set, replicate, length-append, length-replica
 use lib.Seq.{sets, sets-eq, take_at, drop_at, drop-drop}
 use Rattle.octets.proofs.Parts.{drop-zeros}
 use Rattle.clock.specs.Stamp.{stamp_of}
-use Rattle.dated.specs.Dated.{be2}
-use Rattle.records.specs.Record.{sent_in, dated, pad, be4, key_of, notice, withdrawal, aired, kept}
+use Rattle.records.specs.Record.{sent_in, be2, dated, pad, be4, key_of, notice, withdrawal, aired}
 use Rattle.records.proofs.ZeroFill.{pad-long, pad-whole}
 use Rattle.records.proofs.Records.{key-of-long}
 
@@ -78,12 +77,6 @@ aired-made g x l px =
     field_put (3 ∷ replicate 132 0) (fresh 3) x g 133 251 245 (ap (λ (w : List ℕ). 3 ∷ w) (sym (replicate-append-replicate 132 251 0))) (ap suc (length-replicate {A = ℕ} 132 0)) (omega arith) (omega arith) px
     ∙ ap (λ (w : List ℕ). ((3 ∷ replicate 132 0) ++ w) ++ replicate 6 0) (pad-whole 245 g l)
     ∙ append_assoc (3 ∷ replicate 132 0) g (replicate 6 0)
-
-pub kept-made : (t : ℕ) (v x : List ℕ) → v ≡ be4 t → x ≡ sets (fresh 4) 1 v → x ≡ kept t
-unfolding kept
-kept-made t v x e px =
-    field_put (4 ∷ []) (fresh 4) x (be4 t) 1 383 4 refl refl (omega arith) (omega arith) (px ∙ ap (sets (fresh 4) 1) e)
-    ∙ ap (λ (w : List ℕ). (4 ∷ w) ++ replicate 379 0) (pad-whole 4 (be4 t) refl)
 
 -- ---- a header with its year
 

@@ -1,19 +1,18 @@
 -- The laws of a record.
---     record-long, record-kind        384 bytes, of kind 1 to 4
+--     record-long, record-kind        384 bytes, of kind 1, 2 or 3
 --     key-notice, header-notice, ..   what a maker was given stands in its field
 --     notice-ok, withdrawal-ok        parts that keep their rules make records that keep theirs
---     made-aired, kept-ok             and so do a header with its year, and a time
---     over-withdrawal, over-other     when one is over
-use Prim.Native.Nat.{ℕ, ◌+◌, ◌≤◌, ◌<◌}
+--     made-aired                      and so does a header with its year
+use Prim.Native.Nat.{ℕ, ◌≤◌, ◌<◌}
 use mathlib.Core.Bool.{Bool, true, false, true≢false}
 use mathlib.Core.List.{List, [], ◌∷◌, ◌++◌, append_cancel_left, append_cancel_right, tail-eq_of_cons-eq}
-use mathlib.Core.Path.{◌≡◌, refl, sym, ap, ap₂, ◌∙◌, subst}
+use mathlib.Core.Path.{◌≡◌, refl, sym, ap, ap₂, ◌∙◌}
 use native.Mathlib.Omega.{arith}
-use borrow.Author.Tests.{eqb-true, eq-eqb, ne_eqb, lt-ltb, ltb-true}
+use borrow.Author.Tests.{eqb-true, eq-eqb, lt-ltb, ltb-true}
 use lib.Dec.{eqb}
 use lib.ListN.{length, take, drop, replicate, length-append, length-replicate}
 use lib.Seq.{take_at, drop_at, take_all}
-use Rattle.octets.specs.Bytes.{pick, every, holds, part, same}
+use Rattle.octets.specs.Bytes.{every, holds, part, same}
 use Rattle.octets.proofs.Tests.{never, Each, each_of, every_of}
 use Rattle.octets.proofs.Everys.{last-decides}
 use Rattle.octets.proofs.Parts.{length_part}
@@ -24,10 +23,8 @@ use Rattle.header.specs.Body.{times_part, body_form}
 use Rattle.header.proofs.Reading.{body-long}
 use Rattle.fields.specs.Fields.{identity_ok}
 use Rattle.fields.proofs.Identities.{identity-short}
-use Rattle.dated.specs.Dated.{zeros, zero_filled, header_ok, dated_ok}
-use Rattle.records.specs.Record.{kind, key, sent_in, sender_in, identifier_in, header, rest, aired_in, behind, dated, carried, end_in, over, key_tests, key_ok, stamp_in, notice_tests, aired_tests, kind_tests, record_tests, record_ok, pad, key_of, notice, withdrawal, aired, kept}
-use Rattle.dated.proofs.Zeros.{zeros-made, identity-full, body-full}
-use Rattle.records.proofs.ZeroFill.{pad-long, filled-pad, filled_ok}
+use Rattle.records.specs.Record.{kind, key, sent_in, sender_in, identifier_in, header, rest, aired_in, behind, zeros, zero_filled, key_tests, key_ok, header_ok, stamp_in, dated_ok, notice_tests, kind_tests, record_tests, record_ok, pad, key_of, notice, withdrawal, aired}
+use Rattle.records.proofs.ZeroFill.{zeros-made, pad-long, filled-pad, filled_ok, identity-full, body-full}
 
 -- ---- what a record keeps
 
@@ -38,19 +35,18 @@ of-record r h = each_of (record_tests r) h
 pub record-long : (r : List ℕ) → record_ok r ≡ true → length r ≡ 384
 record-long r h = eqb-true (length r) 384 (of-record r h).0
 
-pub record-kind : (r : List ℕ) → record_ok r ≡ true → (1 ≤ kind r) × (kind r ≤ 4)
+pub record-kind : (r : List ℕ) → record_ok r ≡ true → (1 ≤ kind r) × (kind r ≤ 3)
 unfolding every
-record-kind r h = go (eqb (kind r) 1) refl (eqb (kind r) 2) refl (eqb (kind r) 3) refl (eqb (kind r) 4) refl
+record-kind r h = go (eqb (kind r) 1) refl (eqb (kind r) 2) refl (eqb (kind r) 3) refl
   where
-    among : (n : ℕ) → kind r ≡ n → 1 ≤ n → n ≤ 4 → (1 ≤ kind r) × (kind r ≤ 4)
+    among : (n : ℕ) → kind r ≡ n → 1 ≤ n → n ≤ 3 → (1 ≤ kind r) × (kind r ≤ 3)
     among n e l k = (omega arith, omega arith)
 
-    go : (a : Bool) → eqb (kind r) 1 ≡ a → (b : Bool) → eqb (kind r) 2 ≡ b → (c : Bool) → eqb (kind r) 3 ≡ c → (d : Bool) → eqb (kind r) 4 ≡ d → (1 ≤ kind r) × (kind r ≤ 4)
-    go true a b _ c _ d _ = among 1 (eqb-true (kind r) 1 a) (omega arith) (omega arith)
-    go false a true b c _ d _ = among 2 (eqb-true (kind r) 2 b) (omega arith) (omega arith)
-    go false a false b true c d _ = among 3 (eqb-true (kind r) 3 c) (omega arith) (omega arith)
-    go false a false b false c true d = among 4 (eqb-true (kind r) 4 d) (omega arith) (omega arith)
-    go false a false b false c false d = let n : false ≡ true = rw (a, b, c, d) at (of-record r h).1.0 in absurd (true≢false (sym n))
+    go : (a : Bool) → eqb (kind r) 1 ≡ a → (b : Bool) → eqb (kind r) 2 ≡ b → (c : Bool) → eqb (kind r) 3 ≡ c → (1 ≤ kind r) × (kind r ≤ 3)
+    go true a b _ c _ = among 1 (eqb-true (kind r) 1 a) (omega arith) (omega arith)
+    go false a true b c _ = among 2 (eqb-true (kind r) 2 b) (omega arith) (omega arith)
+    go false a false b true c = among 3 (eqb-true (kind r) 3 c) (omega arith) (omega arith)
+    go false a false b false c = let n : false ≡ true = rw (a, b, c) at (of-record r h).1.0 in absurd (true≢false (sym n))
 
 -- the tests of its kind
 of-kind : (r : List ℕ) (n : ℕ) → record_ok r ≡ true → kind r ≡ n → Each (kind_tests n r)
@@ -58,9 +54,6 @@ of-kind r n h e = each_of (kind_tests n r) (ap (λ (k : ℕ). every holds (kind_
 
 pub of-notice : (r : List ℕ) → record_ok r ≡ true → kind r ≡ 1 → Each (notice_tests r)
 of-notice r h e = of-kind r 1 h e
-
-pub of-aired : (r : List ℕ) → record_ok r ≡ true → kind r ≡ 3 → Each (aired_tests r)
-of-aired r h e = of-kind r 3 h e
 
 -- and back
 pub record-ok : (r : List ℕ) (n : ℕ) → length r ≡ 384 → kind r ≡ n → Each (kind_tests n r) → record_ok r ≡ true
@@ -72,8 +65,8 @@ pub kind-decides : (r : List ℕ) (n : ℕ) → length r ≡ 384 → kind r ≡ 
 unfolding record_ok
 kind-decides r n l e = last-decides (eqb (length r) 384 ∷ []) (every holds (kind_tests (kind r) r)) (eq-eqb (length r) 384 l, tt) ∙ ap (λ (k : ℕ). every holds (kind_tests k r)) e
 
-pub no_kind : (r : List ℕ) → (kind r ≡ 1 → ⊥) → (kind r ≡ 2 → ⊥) → (kind r ≡ 3 → ⊥) → (kind r ≡ 4 → ⊥) → record_ok r ≡ false
-no_kind r a b d e = never (record_ok r) (λ h. let k = record-kind r h in omega arith)
+pub no_kind : (r : List ℕ) → (kind r ≡ 1 → ⊥) → (kind r ≡ 2 → ⊥) → (kind r ≡ 3 → ⊥) → record_ok r ≡ false
+no_kind r a b d = never (record_ok r) (λ e. let k = record-kind r e in omega arith)
 
 -- sent is below 3,155,760,000
 pub key-low : (k : List ℕ) → key_ok k ≡ true → sent_in k < span
@@ -93,10 +86,6 @@ kind-withdrawal k = refl
 pub kind-aired : (h : List ℕ) → kind (aired h) ≡ 3
 unfolding aired
 kind-aired h = refl
-
-pub kind-kept : (t : ℕ) → kind (kept t) ≡ 4
-unfolding kept
-kind-kept t = refl
 
 module _ (k h : List ℕ) (lk : length k ≡ 132) where
   pub key-notice : key (notice k h) ≡ k
@@ -147,21 +136,9 @@ module _ (g : List ℕ) (lg : length g ≡ 245) where
   behind-aired =
       ap (take 6) (sym (lib.Seq.drop-drop 245 132 (replicate 132 0 ++ (g ++ replicate 6 0))) ∙ ap (drop 245) (drop_at (replicate 132 0) (g ++ replicate 6 0) 132 (length-replicate {A = ℕ} 132 0)) ∙ drop_at g (replicate 6 0) 245 lg)
 
-  pub aired-long : length (aired g) ≡ 384
+  aired-long : length (aired g) ≡ 384
   unfolding aired
   aired-long = omega (arith, length-append (replicate 132 0) (g ++ replicate 6 0), length-replicate {A = ℕ} 132 0, length-append g (replicate {A = ℕ} 6 0), length-replicate {A = ℕ} 6 0)
-
-  pub carried-aired : carried (aired g) ≡ g
-  unfolding carried
-  carried-aired = ap (λ (n : ℕ). pick (eqb n 1) (dated (key (aired g)) (header (aired g))) (aired_in (aired g))) (kind-aired g) ∙ aired-in
-
-pub sent-kept : (t : ℕ) → t < span → sent_in (key (kept t)) ≡ t
-unfolding sent_in key kept
-sent-kept t inside = omega arith
-
-pub kept-long : (t : ℕ) → length (kept t) ≡ 384
-unfolding kept
-kept-long t = omega (arith, length-replicate {A = ℕ} 379 0)
 
 pub aired-inj : (g h : List ℕ) → aired g ≡ aired h → g ≡ h
 unfolding aired
@@ -177,16 +154,6 @@ module _ (r : List ℕ) (l : length r ≡ 384) where
   pub header-long : length (header r) ≡ 243
   unfolding header
   header-long = length_part r 133 243 (omega arith)
-
--- ---- when a record is over
-
-pub over-withdrawal : (r : List ℕ) → kind r ≡ 2 → over r ≡ sent_in (key r) + 360000
-unfolding over
-over-withdrawal r e = ap (λ (b : Bool). pick b (sent_in (key r) + 360000) (end_in r)) (eq-eqb (kind r) 2 e)
-
-pub over-other : (r : List ℕ) → (kind r ≡ 2 → ⊥) → over r ≡ end_in r
-unfolding over
-over-other r h = ap (λ (b : Bool). pick b (sent_in (key r) + 360000) (end_in r)) (ne_eqb (kind r) 2 h)
 
 -- ---- parts that keep their rules
 
@@ -206,12 +173,6 @@ pub made-aired : (g : List ℕ) → length g ≡ 245 → dated_ok g ≡ true →
 made-aired g l ok =
     record-ok (aired g) 3 (aired-long g l) (kind-aired g)
     (ap zeros (key-aired g l) ∙ zeros-made 132, (ap dated_ok (aired-in g l) ∙ ok, (ap zeros (behind-aired g l) ∙ zeros-made 6, tt)))
-
-pub kept-ok : (t : ℕ) → t < span → record_ok (kept t) ≡ true
-unfolding kept
-kept-ok t inside =
-    record-ok (kept t) 4 (kept-long t) (kind-kept t)
-    (lt-ltb (sent_in (key (kept t))) span (subst (λ (n : ℕ). n < span) (sym (sent-kept t inside)) inside), (zeros-made 379, tt))
 
 module _ (sent : ℕ) (sender identifier : List ℕ) where
   pub key-of-long : length sender ≤ 64 → length identifier ≤ 64 → length (key_of sent sender identifier) ≡ 132

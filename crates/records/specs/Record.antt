@@ -1,12 +1,15 @@
--- One record of the board: its fields, its four kinds, and the rules that it keeps. r is the bytes of a record, k a key (sent, sender and identifier, 132 bytes),
+-- One record of the board: its fields, its three kinds, and the rules that it keeps. r is the bytes of a record, k a key (sent, sender and identifier, 132 bytes),
 -- h a header through the dash after JJJHHMM, zero-filled to 243 bytes, g a header with its year, 245 bytes.
-use Rattle.std.specs.Prelude.{ℕ, ◌+◌, ◌-◌, ◌*◌, ◌/◌, ◌%◌, Bool, false, List, [], ◌∷◌, ◌++◌, length, get_or, replicate, eqb, ltb}
-use Rattle.octets.specs.Bytes.{pick, every, holds, byte_at, part, same}
+use Rattle.std.specs.Prelude.{ℕ, ◌+◌, ◌-◌, ◌*◌, ◌/◌, ◌%◌, Bool, false, List, [], ◌∷◌, ◌++◌, length, take, drop, get_or, replicate, eqb, leb, ltb}
+use Rattle.octets.specs.Bytes.{pick, every, holds, between, byte_at, part, same}
+use Rattle.clock.specs.Calendar.{year_days}
 use Rattle.clock.specs.Time.{span}
 use Rattle.clock.specs.Stamp.{stamp_of, stamped}
-use Rattle.header.specs.Body.{times_part}
+use Rattle.parts.specs.Parts.{is_zero}
+use Rattle.header.specs.Body.{times_part, body_form, body_of, body_refusal, read_body_of}
+use Rattle.header.specs.declared.BodyRead.{BodyRead}
 use Rattle.fields.specs.Fields.{identity_ok}
-use Rattle.dated.specs.Dated.{zeros, filled_in, zero_filled, header_ok, be2, dated_ok, end_of}
+use Rattle.fields.specs.References.{up_to}
 
 -- ---- the fields
 
@@ -48,6 +51,17 @@ behind r = part r 378 6
 
 -- ---- a header with its year
 
+-- the header
+unfoldable pub header_of : List ℕ → List ℕ
+header_of g = take 243 g
+
+-- the year, high byte first
+unfoldable pub year_in : List ℕ → ℕ
+year_in g = byte_at g 243 * 256 + byte_at g 244
+
+abbrev pub be2 : ℕ → List ℕ
+be2 n = n / 256 % 256 ∷ n % 256 ∷ []
+
 -- the header h of a message with the key k, with the UTC year of its sent
 unfoldable pub dated : List ℕ → List ℕ → List ℕ
 dated k h = h ++ be2 (stamp_of (sent_in k)).year
@@ -57,15 +71,21 @@ dated k h = h ++ be2 (stamp_of (sent_in k)).year
 unfoldable pub carried : List ℕ → List ℕ
 carried r = pick (eqb (kind r) 1) (dated (key r) (header r)) (aired_in r)
 
--- the end of a notice or an aired record
-abbrev pub end_in : List ℕ → ℕ
-end_in r = end_of (carried r)
-
--- when a record is over: a notice and an aired record at its end, a withdrawal 100 hours after its sent
-unfoldable pub over : List ℕ → ℕ
-over r = pick (eqb (kind r) 2) (sent_in (key r) + 360000) (end_in r)
-
 -- ---- the rules of a field
+
+abbrev pub zeros : List ℕ → Bool
+zeros f = every is_zero f
+
+-- what stands before the first zero byte of a field
+abbrev pub filled_in : List ℕ → List ℕ
+filled_in f = up_to 0 f
+
+-- zero-filled: that keeps its rule, and behind it stand only zeros
+abbrev pub filled_tests : (List ℕ → Bool) → List ℕ → List Bool
+filled_tests ok f = ok (filled_in f) ∷ zeros (drop (length (filled_in f)) f) ∷ []
+
+unfoldable pub zero_filled : (List ℕ → Bool) → List ℕ → Bool
+zero_filled ok f = every holds (filled_tests ok f)
 
 -- sent below 3,155,760,000; sender and identifier, each zero-filled
 abbrev pub key_tests : List ℕ → List Bool
@@ -74,9 +94,24 @@ key_tests k = ltb (sent_in k) span ∷ zero_filled identity_ok (sender_in k) ∷
 unfoldable pub key_ok : List ℕ → Bool
 key_ok k = every holds (key_tests k)
 
--- JJJHHMM of a header, in `+TTTT-JJJHHMM-`
+-- the header, zero-filled
+unfoldable pub header_ok : List ℕ → Bool
+header_ok h = zero_filled body_form h
+
+-- what is read in it: its parts, or 17
+unfoldable pub read_in : List ℕ → BodyRead
+read_in h = pick (zeros (drop (length (filled_in h)) h)) (read_body_of (filled_in h)) body_refusal
+
+-- its JJJHHMM, in `+TTTT-JJJHHMM-`
 unfoldable pub stamp_in : List ℕ → List ℕ
 stamp_in h = part (times_part (filled_in h)) 6 7
+
+-- the header, zero-filled, with a year of 2000 to 2099, a year that has the header's day
+abbrev pub dated_tests : List ℕ → List Bool
+dated_tests g = header_ok (header_of g) ∷ between 2000 2099 (year_in g) ∷ leb (body_of (filled_in (header_of g))).day (year_days (year_in g)) ∷ []
+
+unfoldable pub dated_ok : List ℕ → Bool
+dated_ok g = every holds (dated_tests g)
 
 -- ---- the rules of a record
 
@@ -92,13 +127,9 @@ withdrawal_tests r = key_ok (key r) ∷ zeros (header r) ∷ zeros (rest r) ∷ 
 abbrev pub aired_tests : List ℕ → List Bool
 aired_tests r = zeros (key r) ∷ dated_ok (aired_in r) ∷ zeros (behind r) ∷ []
 
--- kind 4 is a kept time, in the sent field, all else zero
-abbrev pub kept_tests : List ℕ → List Bool
-kept_tests r = ltb (sent_in (key r)) span ∷ zeros (part r 5 379) ∷ []
-
 -- the tests of a kind; there is no other
 abbrev pub kind_tests : ℕ → List ℕ → List Bool
-kind_tests n r = pick (eqb n 1) (notice_tests r) (pick (eqb n 2) (withdrawal_tests r) (pick (eqb n 3) (aired_tests r) (pick (eqb n 4) (kept_tests r) (false ∷ []))))
+kind_tests n r = pick (eqb n 1) (notice_tests r) (pick (eqb n 2) (withdrawal_tests r) (pick (eqb n 3) (aired_tests r) (false ∷ [])))
 
 -- a record is 384 bytes
 abbrev pub record_tests : List ℕ → List Bool
@@ -129,6 +160,3 @@ withdrawal k = 2 ∷ (k ++ replicate 251 0)
 -- of a header with its year
 unfoldable pub aired : List ℕ → List ℕ
 aired g = 3 ∷ (replicate 132 0 ++ (g ++ replicate 6 0))
-
-unfoldable pub kept : ℕ → List ℕ
-kept t = 4 ∷ (be4 t ++ replicate 379 0)

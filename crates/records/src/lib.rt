@@ -1,12 +1,13 @@
-// One record of the board: its makers, the rules that it keeps, and when it is over.
-ghost use Rattle.std.specs.Prelude.{◌≡◌, true, [], ◌∷◌, ◌++◌, ◌≤◌, ◌<◌, length, replicate, eqb};
+// One record of the board: its makers, and the rules that it keeps.
+ghost use Rattle.std.specs.Prelude.{◌≡◌, [], ◌∷◌, ◌++◌, ◌≤◌, ◌<◌, length, replicate, eqb, leb};
 ghost use Rattle.octets.specs.Bytes.{every, holds, same};
+ghost use Rattle.clock.specs.Calendar.{year_days};
 ghost use Rattle.clock.specs.Time.{span};
 ghost use Rattle.clock.specs.Stamp.{stamp_of, stamped};
 ghost use Rattle.fields.specs.Fields.{identity_ok};
-ghost use Rattle.dated.specs.Dated.{zero_filled, header_ok};
-ghost use Rattle.records.specs.Record.{kind, sent_in, key_ok, stamp_in, notice_tests, withdrawal_tests, aired_tests, kept_tests, record_ok, pad, be4, key_of, notice, withdrawal, aired, kept, dated, carried, over};
+ghost use Rattle.records.specs.Record.{sent_in, zeros, filled_in, zero_filled, key_ok, header_ok, read_in, stamp_in, notice_tests, withdrawal_tests, aired_tests, record_ok, pad, be4, key_of, notice, withdrawal, aired, year_in, be2, dated, carried, dated_ok};
 
+use header::BodyRead;
 use parts::Body;
 
 #[derive(Drop)]
@@ -33,8 +34,10 @@ impl Record {
 
     pub const ZEROS: usize = 378;
 
-    // The bytes of what a record carries, a header with its year.
-    pub const CARRIED: usize = dated::LONG;
+    // The bytes of a header, and of a header with its year.
+    pub const FRONT: usize = 243;
+
+    pub const CARRIED: usize = 245;
 
     // Kinds.
     pub const NOTICE: u8 = 1;
@@ -42,8 +45,6 @@ impl Record {
     pub const WITHDRAWAL: u8 = 2;
 
     pub const AIRED: u8 = 3;
-
-    pub const KEPT: u8 = 4;
 
     // A notice uses all.
     pub fn notice(sent: u32, sender: &[u8], identifier: &[u8], header: &[u8]) -> Record
@@ -72,17 +73,6 @@ impl Record {
         let mut b = [0u8; Record::SIZE];
         b[Record::KIND] = Record::AIRED;
         octets::put_bytes(&mut b, Record::HEADER, header);
-        Record { bytes: b }
-    }
-
-    // A kept time stands in the sent field, and all else is zero.
-    pub fn kept(t: u32) -> Record
-        ensures { result.bytes ≡ kept t }
-    {
-        let time = big_endian(t);
-        let mut b = [0u8; Record::SIZE];
-        b[Record::KIND] = Record::KEPT;
-        octets::put_bytes(&mut b, Record::SENT, &time);
         Record { bytes: b }
     }
 }
@@ -127,26 +117,57 @@ fn keyed(kind: u8, sent: u32, sender: &[u8], identifier: &[u8]) -> [u8; Record::
 // ---- the rules
 
 // The seconds of 2000 to 2099.
-pub const SPAN: u32 = 3155760000;
+const SPAN: u32 = 3155760000;
+
+pub fn are_zeros(f: &[u8]) -> bool
+    ensures { result ≡ zeros f.now }
+{
+    let mut i: usize = 0;
+    while i < f.len() {
+        if f[i] != 0 {
+            return false;
+        }
+        i += 1;
+    }
+    true
+}
+
+// How many bytes stand before the first zero byte.
+fn filled(f: &[u8]) -> usize
+    ensures { result ≡ length (filled_in f.now) }
+{
+    let mut i: usize = 0;
+    while i < f.len() {
+        if f[i] == 0 {
+            return i;
+        }
+        i += 1;
+    }
+    i
+}
 
 // Whether a field is a sender or an identifier, zero-filled.
 fn is_name(f: &[u8]) -> bool
     ensures { result ≡ zero_filled identity_ok f.now }
 {
-    let n = dated::filled(f);
+    let n = filled(f);
     if !fields::is_identity(&f[0..n]) {
         return false;
     }
-    dated::are_zeros(&f[n..])
+    are_zeros(&f[n..])
 }
 
-// The sent of a key, or the time that is kept in its place.
-pub fn sent_of(k: &[u8]) -> u32
+fn wide(b: u8) -> u32
+    ensures { (result ≡ b) × (result ≤ 255) }
+{
+    b as u32
+}
+
+fn sent_of(k: &[u8]) -> u32
     requires { 4 ≤ length k.now }
     ensures { result ≡ sent_in k.now }
 {
-    ((dated::wide(k[0]) * 256 + dated::wide(k[1])) * 256 + dated::wide(k[2])) * 256
-        + dated::wide(k[3])
+    ((wide(k[0]) * 256 + wide(k[1])) * 256 + wide(k[2])) * 256 + wide(k[3])
 }
 
 // Whether k is a sent, a sender and an identifier.
@@ -161,6 +182,17 @@ fn is_key(k: &[u8]) -> bool
         return false;
     }
     is_name(&k[Record::IDENTIFIER - Record::SENT..Record::HEADER - Record::SENT])
+}
+
+// The header that a field is, zero-filled, or 17.
+fn header_in(h: &[u8]) -> BodyRead
+    ensures { result ≡ read_in h.now }
+{
+    let n = filled(h);
+    if !are_zeros(&h[n..]) {
+        return header::refused_body();
+    }
+    header::read_body(&h[0..n])
 }
 
 // Whether the day, hour and minute of a header are those of sent.
@@ -183,7 +215,7 @@ fn is_header_of(h: &[u8], sent: u32) -> bool
     requires { sent < span }
     ensures { result ≡ every holds (header_ok h.now ∷ same (stamp_in h.now) (stamped sent) ∷ []) }
 {
-    let read = dated::header_in(h);
+    let read = header_in(h);
     if read.number != 0 {
         return false;
     }
@@ -202,7 +234,7 @@ fn is_notice(r: &[u8]) -> bool
     if !is_header_of(&r[Record::HEADER..Record::YEAR], sent_of(k)) {
         return false;
     }
-    dated::are_zeros(&r[Record::YEAR..Record::SIZE])
+    are_zeros(&r[Record::YEAR..Record::SIZE])
 }
 
 fn is_withdrawal(r: &[u8]) -> bool
@@ -212,10 +244,10 @@ fn is_withdrawal(r: &[u8]) -> bool
     if !is_key(&r[Record::SENT..Record::HEADER]) {
         return false;
     }
-    if !dated::are_zeros(&r[Record::HEADER..Record::YEAR]) {
+    if !are_zeros(&r[Record::HEADER..Record::YEAR]) {
         return false;
     }
-    dated::are_zeros(&r[Record::YEAR..Record::SIZE])
+    are_zeros(&r[Record::YEAR..Record::SIZE])
 }
 
 // ---- a header with its year
@@ -231,15 +263,22 @@ fn utc_year(sent: u32) -> u32
     on.year
 }
 
+// The two bytes of a year, high byte first.
+fn two_bytes(year: u32) -> [u8; 2]
+    ensures { result ≡ be2 year }
+{
+    [(year / 256 % 256) as u8, (year % 256) as u8]
+}
+
 // The header h of a message with the key k, with the year of its sent.
 fn with_year(k: &[u8], h: &[u8]) -> [u8; Record::CARRIED]
     requires { (length k.now ≡ 132) × (length h.now ≡ 243) }
     ensures { result ≡ dated k.now h.now }
 {
-    let year = dated::two_bytes(utc_year(sent_of(k)));
+    let year = two_bytes(utc_year(sent_of(k)));
     let mut g = [0u8; Record::CARRIED];
     octets::put_bytes(&mut g, 0, h);
-    octets::put_bytes(&mut g, dated::FRONT, &year);
+    octets::put_bytes(&mut g, Record::FRONT, &year);
     g
 }
 
@@ -266,27 +305,55 @@ pub fn carried_by(r: &[u8]) -> [u8; Record::CARRIED]
     copied(&r[Record::HEADER..Record::ZEROS])
 }
 
+// The year in a header with its year.
+fn year_in(g: &[u8]) -> u32
+    requires { length g.now ≡ 245 }
+    ensures { result ≡ year_in g.now }
+{
+    wide(g[Record::FRONT]) * 256 + wide(g[Record::FRONT + 1])
+}
+
+// Whether a year has a day.
+fn has_day(year: u32, day: u32) -> bool
+    ensures { result ≡ leb day (year_days year) }
+{
+    if clock::is_leap(year) {
+        return day <= 366;
+    }
+    day <= 365
+}
+
+// Whether g is a header, zero-filled, with a year of 2000 to 2099 that has its day.
+fn is_dated(g: &[u8]) -> bool
+    requires { length g.now ≡ 245 }
+    ensures { result ≡ dated_ok g.now }
+{
+    let read = header_in(&g[0..Record::FRONT]);
+    if read.number != 0 {
+        return false;
+    }
+    let year = year_in(g);
+    if year < 2000 {
+        return false;
+    }
+    if 2099 < year {
+        return false;
+    }
+    let body = read.body;
+    has_day(year, body.day)
+}
+
 fn is_aired(r: &[u8]) -> bool
     requires { length r.now ≡ 384 }
     ensures { result ≡ every holds (aired_tests r.now) }
 {
-    if !dated::are_zeros(&r[Record::SENT..Record::HEADER]) {
+    if !are_zeros(&r[Record::SENT..Record::HEADER]) {
         return false;
     }
-    if !dated::is_dated(&r[Record::HEADER..Record::ZEROS]) {
+    if !is_dated(&r[Record::HEADER..Record::ZEROS]) {
         return false;
     }
-    dated::are_zeros(&r[Record::ZEROS..Record::SIZE])
-}
-
-fn is_kept(r: &[u8]) -> bool
-    requires { length r.now ≡ 384 }
-    ensures { result ≡ every holds (kept_tests r.now) }
-{
-    if SPAN <= sent_of(&r[Record::SENT..Record::HEADER]) {
-        return false;
-    }
-    dated::are_zeros(&r[Record::SENDER..Record::SIZE])
+    are_zeros(&r[Record::ZEROS..Record::SIZE])
 }
 
 // Whether r is a record.
@@ -306,25 +373,5 @@ pub fn is_record(r: &[u8]) -> bool
     if kind == Record::AIRED {
         return is_aired(r);
     }
-    if kind == Record::KEPT {
-        return is_kept(r);
-    }
     false
-}
-
-// ---- when it is over
-
-// So many seconds after its sent a withdrawal is over.
-const HUNDRED_HOURS: u64 = 360000;
-
-// When a record that keeps its rules and is no kept time is over.
-pub fn over_at(r: &[u8]) -> u64
-    requires { (record_ok r.now ≡ true) × (kind r.now ≡ 4 → ⊥) }
-    ensures { result ≡ over r.now }
-{
-    if r[Record::KIND] == Record::WITHDRAWAL {
-        return sent_of(&r[Record::SENT..Record::HEADER]) as u64 + HUNDRED_HOURS;
-    }
-    let g = carried_by(r);
-    dated::end_of(&g) as u64
 }

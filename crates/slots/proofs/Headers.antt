@@ -12,8 +12,7 @@ use Rattle.octets.specs.Order.{cmp, choose}
 use Rattle.octets.proofs.Orders.{cmp-refl, cmp-trans, cmp-shorter, starts-decide}
 use Rattle.octets.proofs.Sames.{same-is, same_refl}
 use Rattle.octets.proofs.Tests.{never}
-use Rattle.dated.specs.Dated.{header_of}
-use Rattle.records.specs.Record.{header, carried}
+use Rattle.records.specs.Record.{header, header_of, carried}
 use Rattle.records.proofs.Carried.{front-is, carried-long}
 use Rattle.records.proofs.Records.{header-long}
 

@@ -17,7 +17,7 @@ use Rattle.octets.specs.declared.Order.{Order}
 use Rattle.octets.specs.declared.Order.TheVariants.{Less, Same, More}
 use Rattle.octets.specs.Order.{cmp, choose}
 use Rattle.octets.proofs.Parts.{length_part}
-use Rattle.records.specs.Record.{kind, key}
+use Rattle.records.specs.Record.{kind}
 use Rattle.ledger.specs.Sorted.{In, has, Sorted, insert, insert_all}
 use Rattle.ledger.proofs.Sorts.{in-insert_all, insert_all-sorted, insert-held, insert-new, insert_all-grows, insert_all-append, has_in}
 use Rattle.slots.specs.declared.Place.{Place}
@@ -76,11 +76,6 @@ rec-part s i o w h =
     ap (λ (k : ℕ). take w (drop o (take k (drop (i * 384) s)))) (let q : 384 ≡ o + (384 - o) = omega arith in q)
     ∙ ap (take w) (drop-take o (384 - o) (drop (i * 384) s))
     ∙ take-take w (384 - o) (drop o (drop (i * 384) s)) (omega arith))
-
--- the key of record i, as a range takes it
-pub key-part : (s : List ℕ) (i : ℕ) → take (i * 384 + 133 - (i * 384 + 1)) (drop (i * 384 + 1) s) ≡ key (rec i s)
-unfolding key
-key-part s i = rec-part s i 1 132 (omega arith)
 
 pub flat-take : (k n : ℕ) (s : List ℕ) → k ≤ n → flat (take k (recs n s)) ≡ take (k * 384) s
 flat-take zero n s h = refl
@@ -216,7 +211,7 @@ shift-step s b i j to e h room is =
         ∙ get_or-append (take (i + 384) s) (slice i to s ++ drop (to + 384) s) 0 j (rw (length-take-le (i + 384) s (omega arith)) (omega arith))
         ∙ get_or-take (i + 384) s j 0 (omega arith)
 
-pub flat_append : (a b : List (List ℕ)) → flat (a ++ b) ≡ flat a ++ flat b
+flat_append : (a b : List (List ℕ)) → flat (a ++ b) ≡ flat a ++ flat b
 flat_append [] b = refl
 flat_append (r ∷ a) b = ap (λ (l : List ℕ). r ++ l) (flat_append a b) ∙ sym (append_assoc r (flat a) (flat b))
 

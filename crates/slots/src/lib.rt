@@ -1,21 +1,15 @@
-// Records in lent bytes, one after the other: whether one is held, where one goes, records added in their places, records that close up, the kept times, and the headers of records.
-ghost use Rattle.std.specs.Prelude.{◌≡◌, [], ◌∷◌, ◌++◌, ◌+◌, ◌*◌, ◌-◌, ◌≤◌, eqb, length, take, drop, replicate};
+// Records in lent bytes, one after the other: whether one is held, where one goes, records added in their places, and their headers.
+ghost use Rattle.std.specs.Prelude.{◌≡◌, ◌++◌, ◌+◌, ◌*◌, ◌≤◌, length, take, drop};
 ghost use Rattle.std.proofs.Math.Seq.{slice};
-ghost use Rattle.std.proofs.lemmas.List.Edits.{sets};
-ghost use Rattle.octets.specs.Bytes.{pick, same};
+ghost use Rattle.octets.specs.Bytes.{same};
 ghost use Rattle.octets.specs.Order.{cmp};
-ghost use Rattle.records.specs.Record.{kind, header, carried, aired};
+ghost use Rattle.records.specs.Record.{header, carried, aired};
 ghost use Rattle.ledger.specs.Sorted.{has, Sorted, insert, insert_all};
-ghost use Rattle.ledger.specs.WorkingBoard.{kept_in, outlasts};
 ghost use Rattle.slots.specs.WorkingSlots.{rec, flat, place_of};
 ghost use Rattle.slots.specs.Slots.{recs};
-ghost use Rattle.slots.specs.WorkingMarks.{marked, marks_in};
 
 use octets::Order;
 use records::Record;
-
-// The most records that a board holds.
-pub const MOST: usize = 170;
 
 // Where a record goes: a new one to an index, or it is held there.
 #[derive(Drop)]
@@ -146,146 +140,6 @@ pub fn add_all(s: &mut [u8], n: usize, batch: &[u8], m: usize) -> usize
         i += 1;
     }
     k
-}
-
-// ---- records that close up
-
-// 1 for a mark, else 0.
-fn counted(mark: bool) -> usize
-    ensures value { result ≡ pick mark 1 0 }
-    ensures upper_bound { result ≤ 1 }
-{
-    if mark {
-        return 1;
-    }
-    0
-}
-
-// How many of the first n are marked.
-pub fn count_marks(marks: &[bool; MOST], n: usize) -> usize
-    requires { n ≤ 170 }
-    ensures value { result ≡ marks_in marks.now n }
-    ensures upper_bound { result ≤ n }
-{
-    let mut k: usize = 0;
-    let mut i: usize = 0;
-    while i < n {
-        k = k + counted(marks[i]);
-        i += 1;
-    }
-    k
-}
-
-// Puts a copy of record i at index k.
-fn put_down(s: &mut [u8], i: usize, k: usize)
-    requires { (k ≤ i) × ((i + 1) * 384 ≤ length s.old) }
-    ensures { s.new ≡ sets s.old (k * 384) (rec i s.old) }
-{
-    let mut r = [0u8; Record::SIZE];
-    octets::put_bytes(&mut r, 0, record_at(s, i));
-    octets::put_bytes(s, k * Record::SIZE, &r);
-}
-
-// Record i goes to index k where it is marked. The result is the index of the next.
-fn close_one(s: &mut [u8], i: usize, k: usize, mark: bool) -> usize
-    requires { (k ≤ i) × ((i + 1) * 384 ≤ length s.old) }
-    ensures value { result ≡ pick mark (k + 1) k }
-    ensures s_after { s.new ≡ pick mark (sets s.old (k * 384) (rec i s.old)) s.old }
-{
-    if !mark {
-        return k;
-    }
-    put_down(s, i, k);
-    k + 1
-}
-
-// Closes up those of the first n records that are marked, in order. The result is how many they are.
-pub fn close_up(s: &mut [u8], n: usize, marks: &[bool; MOST]) -> usize
-    requires { (n * 384 ≤ length s.old) × (n ≤ 170) }
-    ensures value { result ≡ length (marked marks.now n s.old) }
-    ensures s_after { take (result * 384) s.new ≡ flat (marked marks.now n s.old) }
-    ensures s_unchanged { drop (n * 384) s.new ≡ drop (n * 384) s.old }
-    ensures upper_bound { result ≤ n }
-{
-    let mut i: usize = 0;
-    let mut k: usize = 0;
-    while i < n {
-        k = close_one(s, i, k, marks[i]);
-        i += 1;
-    }
-    k
-}
-
-// Zeros from one byte up to another.
-pub fn clear(s: &mut [u8], from: usize, to: usize)
-    requires { (from ≤ to) × (to ≤ length s.old) }
-    ensures { s.new ≡ take from s.old ++ (replicate (to - from) 0 ++ drop to s.old) }
-{
-    let mut j = from;
-    while j < to {
-        s[j] = 0;
-        j += 1;
-    }
-}
-
-// ---- the kept times
-
-// 1 where record i is a kept time, else 0.
-fn kept_at(s: &[u8], i: usize) -> usize
-    requires { (i + 1) * 384 ≤ length s.now }
-    ensures value { result ≡ pick (eqb (kind (rec i s.now)) 4) 1 0 }
-    ensures upper_bound { result ≤ 1 }
-{
-    let at = i * Record::SIZE;
-    if s[at] != Record::KEPT {
-        return 0;
-    }
-    1
-}
-
-// How many of the first n records are kept times.
-pub fn times_kept(s: &[u8], n: usize) -> usize
-    requires { n * 384 ≤ length s.now }
-    ensures value { result ≡ length (kept_in (recs n s.now)) }
-    ensures upper_bound { result ≤ n }
-{
-    let mut k: usize = 0;
-    let mut i: usize = 0;
-    while i < n {
-        k = k + kept_at(s, i);
-        i += 1;
-    }
-    k
-}
-
-// Whether e is after record i, if that is a kept time.
-fn is_past(s: &[u8], i: usize, e: u64) -> bool
-    requires { (i + 1) * 384 ≤ length s.now }
-    ensures { result ≡ outlasts (rec i s.now ∷ []) e }
-{
-    let at = i * Record::SIZE;
-    if s[at] != Record::KEPT {
-        return true;
-    }
-    let from = at + Record::SENT;
-    let to = at + Record::HEADER;
-    let t = records::sent_of(&s[from..to]) as u64;
-    t < e
-}
-
-// Whether e is after each time kept among the first n records.
-pub fn outlasts(s: &[u8], n: usize, e: u64) -> bool
-    requires { n * 384 ≤ length s.now }
-    ensures { result ≡ outlasts (recs n s.now) e }
-{
-    let mut i: usize = 0;
-    while i < n {
-        if !is_past(s, i, e) {
-            return false;
-        }
-        i += 1;
-    }
-    true
 }
 
 // ---- the headers of records: each with its year, which is worked out only where the headers alone are the same

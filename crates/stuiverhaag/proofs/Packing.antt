@@ -28,16 +28,13 @@ use Rattle.parts.specs.declared.Originator.{Originator}
 use Rattle.parts.specs.declared.Originator.TheVariants.{Pep, Eas, Wxr, Civ}
 use Rattle.parts.specs.declared.Parts.{Parts}
 use Rattle.ledger.specs.WorkingBoard.{live, carries, index_of}
-use Rattle.ledger.proofs.Kept.{collected-counts}
 use Rattle.board.specs.Rules.{board_of}
 use Rattle.board.specs.WorkingRules.{board_ok}
 use Rattle.board.specs.WorkingCalls as board
 use Rattle.board.specs.declared.Handed.{Handed}
-use Rattle.board.specs.declared.Collected.{Collected}
 use Rattle.board.proofs.Boards.{board-within, kept-rules}
 use Rattle.board.proofs.Answers.{offer-bad, hand-bad}
 use Rattle.board.proofs.Keeps.{Offer, offer-is, Hand, hand-is}
-use Rattle.board.proofs.Collects.{Collect, collect-bad, collect-is}
 use Rattle.offers.specs.WorkingRecords.{records_of}
 use Rattle.offers.specs.WorkingOffer.{offer_refused_by, offer_given, message_offer}
 use Rattle.offers.specs.declared.Offered.{Offered}
@@ -114,12 +111,12 @@ pub offer-narrow : (s m : List ℕ) → NarrowOffered (message_offer s m).answer
 unfolding message_offer
 offer-narrow s m = of (board_ok s) _ _ (judged-small m)
   where
-    go : (a b : Bool) (number field : ℕ) → (number ≤ 17) × (field ≤ 7) → NarrowOffered (pick a (pick b (offer_given (board.offer_of s (records_of (board_of s) m))) (offer_refused_by number field s)) (offer_refused_by 1 0 s)).answer
+    go : (a b : Bool) (number field : ℕ) → (number ≤ 17) × (field ≤ 7) → NarrowOffered (pick a (pick b (offer_given (board.offer_of s (records_of m))) (offer_refused_by number field s)) (offer_refused_by 1 0 s)).answer
     go false b number field j = record { number = omega arith; field = omega arith; added = omega arith }
     go true false number field j = record { number = omega arith; field = omega arith; added = omega arith }
-    go true true number field j = records-narrow s (records_of (board_of s) m)
+    go true true number field j = records-narrow s (records_of m)
 
-    of : (a : Bool) (number field : ℕ) → (number ≤ 17) × (field ≤ 7) → NarrowOffered (pick a (pick (eqb number 0) (offer_given (board.offer_of s (records_of (board_of s) m))) (offer_refused_by number field s)) (offer_refused_by 1 0 s)).answer
+    of : (a : Bool) (number field : ℕ) → (number ≤ 17) × (field ≤ 7) → NarrowOffered (pick a (pick (eqb number 0) (offer_given (board.offer_of s (records_of m))) (offer_refused_by number field s)) (offer_refused_by 1 0 s)).answer
     of a number field j = go a (eqb number 0) number field j
 
 -- ---- a hand-out
@@ -147,21 +144,3 @@ hand-narrow s = go (board_ok s) refl
     go : (b : Bool) → board_ok s ≡ b → NarrowHanded (board.hand_of s).answer
     go true ok = by ok (hand-is s ok)
     go false e = rw (hand-bad s e) (record { number = omega arith; index = omega arith })
-
--- ---- a collection
-
-pub record NarrowCollected (c : Collected) : Type 0 where
-  pub number : c.number ≤ 255
-  pub dropped : c.dropped ≤ 65535
-
-pub collect-narrow : (s : List ℕ) (t : ℕ) → NarrowCollected (board.collect_of s t).answer
-collect-narrow s t = go (board_ok s) refl
-  where
-    by : (ok : board_ok s ≡ true) → Collect s t ok → NarrowCollected (board.collect_of s t).answer
-    by ok (Collect.late u e f) = rw e (record { number = omega arith; dropped = omega arith })
-    by ok (Collect.full u l e f) = rw e (record { number = omega arith; dropped = omega arith })
-    by ok (Collect.made u l e f) = rw e (record { number = omega arith; dropped = omega (arith, collected-counts t (board_of s), board-within s, (kept-rules s ok).high) })
-
-    go : (b : Bool) → board_ok s ≡ b → NarrowCollected (board.collect_of s t).answer
-    go true ok = by ok (collect-is s t ok)
-    go false e = rw (collect-bad s t e) (record { number = omega arith; dropped = omega arith })

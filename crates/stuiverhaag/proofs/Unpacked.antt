@@ -1,5 +1,5 @@
 -- What a host takes out of an answer, part by part as the functions of include/stuiverhaag.h do, is what was answered.
---     header-unpacked, text-unpacked, canadian-unpacked, read-unpacked, write-unpacked, offer-unpacked, hand-out-unpacked, collect-unpacked    for each call
+--     header-unpacked, text-unpacked, canadian-unpacked, read-unpacked, write-unpacked, offer-unpacked, hand-out-unpacked    for each call
 --     header-alone, text-alone, canadian-alone                                               a refusal is its number and its field
 use Prim.Native.Nat.{ℕ, ◌+◌, ◌*◌, ◌/◌, ◌%◌, ◌≤◌}
 use mathlib.Core.Bool.{Bool, true, false}
@@ -25,13 +25,12 @@ use Rattle.convert.proofs.Answers.{call-refused}
 use Rattle.convert.specs.Convert.{no_header, HeaderOutcome, header_answer_of}
 use Rattle.convert.specs.WorkingConvert.{header_call, text_call}
 use Rattle.convert.specs.declared.Headed.{Headed}
-use Rattle.board.specs.WorkingCalls.{hand_of, collect_of}
+use Rattle.board.specs.WorkingCalls.{hand_of}
 use Rattle.board.specs.declared.Handed.{Handed}
-use Rattle.board.specs.declared.Collected.{Collected}
 use Rattle.offers.specs.WorkingOffer.{message_offer}
 use Rattle.offers.specs.declared.Offered.{Offered}
-use Rattle.stuiverhaag.proofs.Packing.{header-narrow, text-narrow, canadian-narrow, read-narrow, offer-narrow, hand-narrow, collect-narrow}
-use Rattle.stuiverhaag.specs.Packed.{bit8, bit16, bit24, bit28, bit32, bit48, bit55, packed_headed, NarrowHeaded, packed_text, NarrowText, NarrowBody, packed_read, packed_written, packed_offered, packed_handed, packed_collected}
+use Rattle.stuiverhaag.proofs.Packing.{header-narrow, text-narrow, canadian-narrow, read-narrow, offer-narrow, hand-narrow}
+use Rattle.stuiverhaag.specs.Packed.{bit8, bit16, bit24, bit28, bit32, bit48, bit55, packed_headed, NarrowHeaded, packed_text, NarrowText, NarrowBody, packed_read, packed_written, packed_offered, packed_handed}
 
 -- ---- header and must-carry
 
@@ -157,12 +156,3 @@ pub record HasHanded (n : ℕ) (h : Handed) : Type 0 where
 
 pub hand-out-unpacked : (s : List ℕ) → let h = (hand_of s).answer in HasHanded (packed_handed h) h
 hand-out-unpacked s = let w = hand-narrow s in record { number = omega arith; index = omega arith }
-
--- ---- a collection
-
-pub record HasCollected (n : ℕ) (c : Collected) : Type 0 where
-  pub number : n % 256 ≡ c.number
-  pub dropped : n / bit16 % 65536 ≡ c.dropped
-
-pub collect-unpacked : (s : List ℕ) (t : ℕ) → HasCollected (packed_collected (collect_of s t).answer) (collect_of s t).answer
-collect-unpacked s t = let w = collect-narrow s t in record { number = omega arith; dropped = omega arith }

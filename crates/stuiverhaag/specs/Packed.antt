@@ -9,7 +9,6 @@ use Rattle.header.specs.declared.Written.{Written}
 use Rattle.outputs.specs.declared.TextAudio.{TextAudio}
 use Rattle.convert.specs.declared.Headed.{Headed}
 use Rattle.board.specs.declared.Handed.{Handed}
-use Rattle.board.specs.declared.Collected.{Collected}
 use Rattle.offers.specs.declared.Offered.{Offered}
 
 -- ---- what a bit counts
@@ -94,7 +93,3 @@ packed_offered o = o.number + o.field * bit8 + o.added * bit16
 -- a hand-out: 16 the index
 abbrev pub packed_handed : Handed → ℕ
 packed_handed h = h.number + h.index * bit16
-
--- a collection: 16 how many records were dropped
-abbrev pub packed_collected : Collected → ℕ
-packed_collected c = c.number + c.dropped * bit16

@@ -8,9 +8,9 @@ ghost use Rattle.outputs.specs.Outputs.{text_answer_of};
 ghost use Rattle.canadian.specs.WorkingCanadian.{canadian_of};
 ghost use Rattle.convert.specs.WorkingConvert.{header_call, text_call};
 ghost use Rattle.convert.specs.Convert.{header_answer_of};
-ghost use Rattle.board.specs.WorkingCalls.{hand_of, collect_of};
+ghost use Rattle.board.specs.WorkingCalls.{hand_of};
 ghost use Rattle.offers.specs.WorkingOffer.{message_offer};
-ghost use Rattle.stuiverhaag.specs.Packed.{bit28, packed_text, NarrowText, packed_headed, NarrowHeaded, packed_body, NarrowBody, packed_read, packed_written, packed_offered, packed_handed, packed_collected};
+ghost use Rattle.stuiverhaag.specs.Packed.{bit28, packed_text, NarrowText, packed_headed, NarrowHeaded, packed_body, NarrowBody, packed_read, packed_written, packed_offered, packed_handed};
 
 use convert::Headed;
 use outputs::TextAudio;
@@ -174,14 +174,4 @@ pub extern "C" fn stuiverhaag_hand_out(s: &mut [u8]) -> u64
 {
     let h = board::hand_out(s);
     (h.number as u64) + (h.index as u64) * BIT16
-}
-
-// Drops what is over at t, closes up and keeps t: how many records were dropped, or 1, 19 or 15 and nothing written.
-#[unsafe(no_mangle)]
-pub extern "C" fn stuiverhaag_collect(s: &mut [u8], t: u64) -> u64
-    ensures value { result ≡ packed_collected (collect_of s.old t).answer }
-    ensures s_after { s.new ≡ (collect_of s.old t).bytes }
-{
-    let c = board::collect(s, t);
-    (c.number as u64) + (c.dropped as u64) * BIT16
 }

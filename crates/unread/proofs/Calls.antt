@@ -22,7 +22,6 @@ use Rattle.outputs.specs.WorkingOutputs.{roomy_text, uri_in}
 use Rattle.canadian.specs.WorkingCanadian.{canadian_given, words_given, canadian_by, canadian_of}
 use Rattle.convert.specs.Convert.{no_header}
 use Rattle.convert.specs.WorkingConvert.{text_in, header_by, text_by, judged_for, outcome_of, call_of, header_call, text_call}
-use Rattle.board.specs.Rules.{board_of}
 use Rattle.offers.specs.WorkingRecords.{own_in, zero_filled_header, alert_by, records_of}
 use Rattle.offers.specs.Offer.{MessageOffering}
 use Rattle.offers.specs.WorkingOffer.{message_offer}
@@ -122,13 +121,13 @@ module _ (s r : List ℕ) where
     unfolding canadian_of
     same-canadian text uri = rw (by_as (message_says s) (message_says r) (message-as s r d))
 
-    same-records : (b : List (List ℕ)) → records_of b s ≡ records_of b r
+    same-records : records_of s ≡ records_of r
     unfolding records_of
-    same-records b = rw (left_as (judged_of s) (judged_of r) h, h.number)
+    same-records = rw (left_as (judged_of s) (judged_of r) h, h.number)
 
     same-offering : (board : List ℕ) → message_offer board s ≡ message_offer board r
     unfolding message_offer
-    same-offering board = rw (same-records (board_of board), h.number, h.field)
+    same-offering board = rw (same-records, h.number, h.field)
 
     pub same-program : (room : ℕ) → program_of room s ≡ program_of room r
     unfolding program_of

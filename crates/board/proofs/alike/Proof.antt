@@ -6,8 +6,7 @@ use Rattle.records.specs.Record.{carried}
 use Rattle.ledger.specs.WorkingBoard.{live}
 use Rattle.slots.specs.WorkingSlots.{rec}
 use Rattle.slots.specs.Slots.{recs}
-use Rattle.slots.proofs.Marks.{mark-at}
-use Rattle.board.proofs.DueRows.{not_alike, other-header, alike-yes}
+use Rattle.board.proofs.Finds.{mark-at, not_alike, other-header, alike-yes}
 use borrow.Author.Rules.{rules}
 use Rattle.board.proofs.alike.Statement.{statement}
 use Rattle.board.proofs.alike.Tie as tie

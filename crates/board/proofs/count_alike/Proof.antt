@@ -7,7 +7,7 @@ use lib.ListN.{drop}
 use Rattle.ledger.specs.WorkingBoard.{live, count_of}
 use Rattle.slots.specs.WorkingSlots.{rec}
 use Rattle.slots.specs.Slots.{recs}
-use Rattle.board.proofs.DueRows.{count-on, count-end}
+use Rattle.board.proofs.Finds.{count-on, count-end}
 use borrow.Author.Rules.{rules}
 use Rattle.board.proofs.count_alike.Statement.{statement}
 use Rattle.board.proofs.count_alike.Tie as tie

@@ -7,10 +7,9 @@ use lib.ListN.{length}
 use lib.ListN.{length-replicate}
 use Rattle.ledger.specs.WorkingBoard.{live, due}
 use Rattle.slots.specs.Slots.{recs}
-use Rattle.slots.specs.WorkingMarks.{Marks}
 use Rattle.board.specs.WorkingCalls.{blank}
-use Rattle.dues.proofs.Finds.{due-most}
-use Rattle.board.proofs.DueRows.{Standing, stand-start, row_within, stand-next, stand-end}
+use Rattle.board.specs.WorkingMarks.{Marks}
+use Rattle.board.proofs.Finds.{Standing, stand-start, row_within, stand-next, stand-end, due-most}
 use borrow.Author.Rules.{rules}
 use Rattle.board.proofs.due_rows.Statement.{statement}
 use Rattle.board.proofs.due_rows.Tie as tie

@@ -4,9 +4,8 @@ use mathlib.Core.Bool.{true}
 use native.Mathlib.Omega.{arith}
 use borrow.Author.Tests.{not-true, not-false}
 use Rattle.judgement.specs.WorkingRules.{asks_references}
-use Rattle.board.specs.Rules.{board_of}
 use Rattle.offers.proofs.Taken.{Ready, ready}
-use Rattle.offers.proofs.Putting.{taken-few, as_long, put_alone, put_both}
+use Rattle.offers.proofs.Putting.{as_long, put_alone, put_both}
 use borrow.Author.Rules.{rules}
 use Rattle.offers.proofs.put_records.Statement.{statement}
 use Rattle.offers.proofs.put_records.Tie as tie
@@ -16,7 +15,7 @@ abbrev to-notice : tie.After-asks-references → tie.After-put-notice
 to-notice c = c.before.before.before.before
 
 abbrev to_start : tie.After-put-notice → tie.Start
-to_start c = c.before.before.before.before.before
+to_start c = c.before.before.before.before
 
 told : (c : tie.Start) → Ready c.args.s.now c.args.j
 told c = ready _ _ c.requires.0 c.requires.1
@@ -36,7 +35,7 @@ same_length c = search rules
 returns : tie.Need-returns
 returns c =
     let n = to-notice c.before in
-    put_alone _ _ _ _ _ _ n.put-notice.ensures.0 n.put-notice.ensures.1 (sym c.before.asks-references.ensures ∙ not-true _ c.if1.true)
+    put_alone _ _ _ _ _ n.put-notice.ensures.0 n.put-notice.ensures.1 (sym c.before.asks-references.ensures ∙ not-true _ c.if1.true)
 
 element-copy-out-references : tie.Need-element-copy-out-references
 element-copy-out-references c = search rules
@@ -47,8 +46,8 @@ put-withdrawals-requires c κs =
     let n = to-notice x.before in
     let s = to_start n in
     let r = told s in
-    let e = as_long _ _ _ _ _ _ n.put-notice.ensures.0 n.put-notice.ensures.1 in
-    (r.references (has x), (omega (arith, n.put-notice.ensures.0, taken-few (board_of s.args.b.now) s.args.s.now s.args.j s.args.batch.now r), omega (arith, e, s.pre.2)))
+    let e = as_long _ _ _ _ _ n.put-notice.ensures.0 n.put-notice.ensures.1 in
+    (r.references (has x), (omega (arith, n.put-notice.ensures.0, r.one), omega (arith, e, s.pre.2)))
 
 same-length-2 : tie.Need-same-length-2
 same-length-2 c = search rules
@@ -58,7 +57,7 @@ returns-2 c =
     let w = c.before.before in
     let x = w.before.before.before.before in
     let n = to-notice x.before in
-    put_both _ _ _ _ _ _ n.put-notice.ensures.0 n.put-notice.ensures.1 (told (to_start n)) _ _ (has x) w.put-withdrawals.ensures.0 w.put-withdrawals.ensures.1
+    put_both _ _ _ _ _ n.put-notice.ensures.0 n.put-notice.ensures.1 (told (to_start n)) _ _ (has x) w.put-withdrawals.ensures.0 w.put-withdrawals.ensures.1
 
 pub put-records-spec : {M : Type 1} → statement M
 put-records-spec =

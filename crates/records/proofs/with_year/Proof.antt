@@ -2,7 +2,7 @@
 use Prim.Native.Nat.{ℕ}
 use mathlib.Core.Path.{ap, ◌∙◌}
 use Rattle.clock.specs.Stamp.{stamp_of}
-use Rattle.dated.specs.Dated.{be2}
+use Rattle.records.specs.Record.{be2}
 use Rattle.records.proofs.Making.{dated-made}
 use borrow.Author.Rules.{rules}
 use Rattle.records.proofs.with_year.Statement.{statement}

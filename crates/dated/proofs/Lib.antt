@@ -1,3 +1,0 @@
-pub mod Zeros
-pub mod Judging
-pub mod Ends

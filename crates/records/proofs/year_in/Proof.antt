@@ -1,0 +1,44 @@
+-- Byte by byte, high byte first.
+use native.Mathlib.Omega.{arith}
+use Rattle.records.specs.Record.{year_in}
+use borrow.Author.Rules.{rules}
+use Rattle.records.proofs.year_in.Statement.{statement}
+use Rattle.records.proofs.year_in.Tie as tie
+
+shared-slice-read-wide : tie.Need-shared-slice-read-wide
+shared-slice-read-wide c = search rules
+
+wide-requires : tie.Need-wide-requires
+wide-requires c κs = search rules
+
+mul-result : tie.Need-overflow-mul-result
+mul-result c = search rules
+
+add_wide : tie.Need-overflow-add-wide
+add_wide c = search rules
+
+shared-slice-read-wide-2 : tie.Need-shared-slice-read-wide-2
+shared-slice-read-wide-2 c = search rules
+
+wide-requires-2 : tie.Need-wide-requires-2
+wide-requires-2 c κs = search rules
+
+add-result : tie.Need-overflow-add-result
+add-result c = search rules
+
+returns : tie.Need-returns
+unfolding year_in
+returns c = omega (arith, c.before.before.wide.ensures.0, c.wide2.ensures.0)
+
+pub year-in-spec : {M : Type 1} → statement M
+year-in-spec =
+    tie.close
+    (tie.spec
+    shared-slice-read-wide
+    wide-requires
+    mul-result
+    add_wide
+    shared-slice-read-wide-2
+    wide-requires-2
+    add-result
+    returns)
