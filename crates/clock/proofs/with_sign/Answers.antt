@@ -1,0 +1,16 @@
+-- A number of minutes fits its bits, with either sign.
+use Prim.Native.Nat.{◌<◌, ◌^◌}
+use mathlib.Core.Path.{◌∙◌}
+use native.Mathlib.Omega.{arith}
+use borrow.Author.Tests.{eq-eqb, ne_eqb}
+use Rattle.clock.specs.Time.{signed}
+use Rattle.clock.proofs.Signed.{minus_is, unsigned}
+use Rattle.clock.proofs.with_sign.Goals as goal
+
+pub returns-then-sign-eq45 : goal.returns-then-sign-eq45
+unfolding signed
+returns-then-sign-eq45 c = minus_is _ c.ranges.m.fits ∙ rw (eq-eqb _ _ c.if-sign-eq45.true)
+
+pub returns : goal.returns
+unfolding signed
+returns c = let h : c.args.m < 2 ^ 63 = omega (arith, c.ranges.m.fits) in unsigned _ h ∙ rw (ne_eqb _ _ c.if-sign-eq45.false)
