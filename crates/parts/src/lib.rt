@@ -8,7 +8,7 @@ ghost use Rattle.parts.specs.WorkingAsked.{sixes_read, asked_body, asked_station
 
 use octets::Num;
 
-#[derive(Drop)]
+#[derive(Clone, Copy)]
 pub enum Originator {
     Pep,
     Eas,
@@ -31,7 +31,7 @@ pub struct Locations {
 }
 
 // The header through the dash after JJJHHMM; `locations` has zeros behind `count`, and `period` is in minutes.
-#[derive(Drop)]
+#[derive(Clone, Copy)]
 pub struct Body {
     pub originator: Originator,
     pub event: [u8; 3],
