@@ -1,0 +1,44 @@
+use Prim.Native.Nat.{◌-◌, ◌<◌}
+use mathlib.Core.Path.{◌≡◌}
+use mathlib.Core.Bool.{true, false}
+use native.Mathlib.Omega.{arith}
+use lib.ListN.{length}
+use Rattle.octets.specs.Bytes.{byte_at}
+use Rattle.octets.proofs.Scans.{starts, moves, stops}
+use Rattle.pieces.specs.Classes.{is_named}
+use Rattle.pieces.proofs.Inside.{named_in}
+use Rattle.pieces.proofs.named.Goals as goal
+
+pub loop-i-init : goal.loop-i-init
+loop-i-init c = starts _ _ _
+
+pub overflow_add-i : goal.overflow_add-i
+overflow_add-i c =
+    let s = c.args.s.now in
+    let i = c.loop-i.i in
+    let e : is_named (byte_at s i) ≡ true = cc in
+    let h : i < length s = named_in s i e in
+    omega arith
+
+pub loop-i-smaller : goal.loop-i-smaller
+loop-i-smaller c =
+    let s = c.args.s.now in
+    let i = c.loop-i.i in
+    let e : is_named (byte_at s i) ≡ true = cc in
+    let h : i < length s = named_in s i e in
+    omega arith
+
+pub loop-i-preserved : goal.loop-i-preserved
+loop-i-preserved c =
+    let s = c.args.s.now in
+    let i = c.loop-i.i in
+    let e : is_named (byte_at s i) ≡ true = cc in
+    let h : i < length s = named_in s i e in
+    moves _ _ _ _ e h c.loop-i.invariant
+
+pub returns : goal.returns
+returns c =
+    let s = c.args.s.now in
+    let i = c.loop-i.i in
+    let e : is_named (byte_at s i) ≡ false = cc in
+    stops _ _ _ _ e c.loop-i.invariant

@@ -1,0 +1,74 @@
+-- The first byte decides, and then the callee's answer.
+use Prim.Native.Nat.{◌<◌}
+use mathlib.Core.Path.{◌≡◌, sym, ap, ◌∙◌}
+use native.Mathlib.Omega.{arith}
+use lib.Dec.{lit<}
+use lib.ListN.{length}
+use borrow.Author.Tests.{eq-eqb, ne_eqb}
+use Rattle.octets.specs.Bytes.{byte_at}
+use Rattle.characters.specs.Utf8.{through}
+use Rattle.pieces.proofs.Words.{inside_is}
+use Rattle.pieces.specs.Pieces.{in_text, ref_at, referred, piece_at}
+use Rattle.pieces.specs.declared.Ref.TheVariants.{Scalar, Wrong}
+use Rattle.pieces.specs.declared.Piece.TheVariants.{Text}
+use Rattle.pieces.proofs.next_piece.Goals as goal
+
+pub next_tag-requires : goal.next_tag-requires
+next_tag-requires c =
+    let s = c.args.s.now in
+    let i = c.args.at in
+    let b = byte_at s i in
+    let f : c.byte-b.result ≡ b = cc in
+    let h : i < length s = inside_is s i 60 (lit< tt) (omega arith) in
+    omega arith
+
+pub returns-then-b-eq60 : goal.returns-then-b-eq60
+unfolding piece_at
+returns-then-b-eq60 c =
+    let s = c.args.s.now in
+    let i = c.args.at in
+    let b = byte_at s i in
+    let f : c.byte-b.result ≡ b = cc in
+    rw (eq-eqb b 60 (omega arith)) c.next_tag.ensures
+
+pub returns-in-Scalar : goal.returns-in-Scalar
+unfolding piece_at referred
+returns-in-Scalar c =
+    let s = c.args.s.now in
+    let i = c.args.at in
+    let b = byte_at s i in
+    let f : c.byte-b.result ≡ b = cc in
+    let w : ref_at s i ≡ Scalar c.in-Scalar.field-0 c.in-Scalar.j = sym c.reference-r.ensures ∙ c.in-Scalar.is in
+    rw (ne_eqb b 60 (omega arith), eq-eqb b 38 (omega arith), w)
+
+pub returns-in-Wrong : goal.returns-in-Wrong
+unfolding piece_at referred
+returns-in-Wrong c =
+    let s = c.args.s.now in
+    let i = c.args.at in
+    let b = byte_at s i in
+    let f : c.byte-b.result ≡ b = cc in
+    let w : ref_at s i ≡ Wrong = sym c.reference-r.ensures ∙ c.in-Wrong.is in
+    rw (ne_eqb b 60 (omega arith), eq-eqb b 38 (omega arith), w)
+
+pub returns-then-e-at : goal.returns-then-e-at
+unfolding piece_at
+returns-then-e-at c =
+    let s = c.args.s.now in
+    let i = c.args.at in
+    let b = byte_at s i in
+    let f : c.byte-b.result ≡ b = cc in
+    let e = through (in_text s) s i in
+    let g : c.run-e.result ≡ e = c.run-e.ensures in
+    rw (ne_eqb b 60 (omega arith), ne_eqb b 38 (omega arith), eq-eqb e i (omega arith))
+
+pub returns-else-e-at : goal.returns-else-e-at
+unfolding piece_at
+returns-else-e-at c =
+    let s = c.args.s.now in
+    let i = c.args.at in
+    let b = byte_at s i in
+    let f : c.byte-b.result ≡ b = cc in
+    let e = through (in_text s) s i in
+    let g : c.run-e.result ≡ e = c.run-e.ensures in
+    rw (ne_eqb b 60 (omega arith), ne_eqb b 38 (omega arith), ne_eqb e i (omega arith)) (ap Text g)
