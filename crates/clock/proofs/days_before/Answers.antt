@@ -9,14 +9,14 @@ use Rattle.clock.proofs.Calendar.{plain, plain-most, before-is}
 use Rattle.clock.proofs.days_before.Goals as goal
 
 -- from March on
-later-at-Else-leap : (c : goal.Else-leap) → let a = c.args in days_before a.leap a.month ≡ pick a.leap (plain a.month + 1) (plain a.month)
-later-at-Else-leap c =
+later : (c : goal.Then-leap) → let a = c.args in days_before a.leap a.month ≡ pick a.leap (plain a.month + 1) (plain a.month)
+later c =
     let a = c.args in
     before-is a.leap a.month c.requires.le_month c.requires.month_bound ∙ rw (le-leb 3 a.month c.if-month-lt3.false)
 
 -- from March on
-later : (c : goal.Then-leap) → let a = c.args in days_before a.leap a.month ≡ pick a.leap (plain a.month + 1) (plain a.month)
-later c =
+later-at-Else-leap : (c : goal.Else-leap) → let a = c.args in days_before a.leap a.month ≡ pick a.leap (plain a.month + 1) (plain a.month)
+later-at-Else-leap c =
     let a = c.args in
     before-is a.leap a.month c.requires.le_month c.requires.month_bound ∙ rw (le-leb 3 a.month c.if-month-lt3.false)
 

@@ -7,16 +7,33 @@ use Rattle.clock.proofs.Times.{Parts, time-no, parts-fit, behind-most, utc-fits,
 use Rattle.clock.proofs.instant.Goals as goal
 
 -- the length and the three pieces
-read :  (c : tie.After-known-told3) → let m = c.before in let s = m.before.before.before.before in let d = s.before.before.before.before in Parts d.before.before.before.before.before.args.t.now d.days.given.0.0 s.seconds.given.0.0 m.behind.given.0.0
+read : (c : goal.After-with_sign-offset) → Parts c.args.t.now c.in-Value.days c.in-Value-second.seconds c.in-Value-zone.behind
 read c =
-    let m = c.before in
-    let s = m.before.before.before.before in
-    let d = s.before.before.before.before in
-    record {
-      long = d.before.before.before.if1.false;
-      date-read = sym d.before.before.date.ensures ∙ d.days.given.1;
-      second-read = sym s.before.before.second.ensures ∙ s.seconds.given.1;
-      zone-read = sym m.before.before.zone.ensures ∙ m.behind.given.1;
+                record {
+      long = c.if-t-ne25.false;
+      date-read = sym c.date.ensures ∙ c.in-Value.is;
+      second-read = sym c.second.ensures ∙ c.in-Value-second.is;
+      zone-read = sym c.zone.ensures ∙ c.in-Value-zone.is;
+    }
+
+-- the length and the three pieces
+read-at-After-since_2000 : (c : goal.After-since_2000) → Parts c.args.t.now c.in-Value.days c.in-Value-second.seconds c.in-Value-zone.behind
+read-at-After-since_2000 c =
+                record {
+      long = c.if-t-ne25.false;
+      date-read = sym c.date.ensures ∙ c.in-Value.is;
+      second-read = sym c.second.ensures ∙ c.in-Value-second.is;
+      zone-read = sym c.zone.ensures ∙ c.in-Value-zone.is;
+    }
+
+-- the length and the three pieces
+read-at-After-in_span : (c : goal.After-in_span) → Parts c.args.t.now c.in-Value.days c.in-Value-second.seconds c.in-Value-zone.behind
+read-at-After-in_span c =
+                record {
+      long = c.if-t-ne25.false;
+      date-read = sym c.date.ensures ∙ c.in-Value.is;
+      second-read = sym c.second.ensures ∙ c.in-Value-second.is;
+      zone-read = sym c.zone.ensures ∙ c.in-Value-zone.is;
     }
 
 pub returns-then-t-ne25 : goal.returns-then-t-ne25
@@ -32,13 +49,12 @@ pub returns-in_default-zone : goal.returns-in_default-zone
 returns-in_default-zone c = sym (time-no 3 _ (read-not _ _ (sym c.zone.ensures ∙ c.in_default-zone.is)))
 
 pub since_2000-requires : goal.since_2000-requires
-since_2000-requires c = parts-fit (read c)
+since_2000-requires c = let both = parts-fit (read c) in record { days_bound = both.0; second_bound = both.1 }
 
 pub to_utc-requires : goal.to_utc-requires
 to_utc-requires c =
-    let r = read c in
-    utc-fits r _ _ _ _ c.since_2000.ensures c.with_sign-offset.ensures (omega (arith, behind-most r))
+    let r = read-at-After-since_2000 c in let both = utc-fits r _ _ _ _ c.since_2000.ensures c.with_sign-offset.ensures (omega (arith, behind-most r)) in record { local_bound = both.0; minutes_bound = both.1 }
 
 pub returns : goal.returns
 returns c =
-        time-made (read c) _ _ _ _ c.since_2000.ensures c.with_sign-offset.ensures c.to_utc.ensures c.in_span.ensures
+        time-made (read-at-After-in_span c) _ _ _ _ c.since_2000.ensures c.with_sign-offset.ensures c.to_utc.ensures c.in_span.ensures

@@ -7,14 +7,12 @@ use Rattle.clock.proofs.Pieces.{Hours, read_no, hours-most, minute-most, minutes
 use Rattle.clock.proofs.minutes.Goals as goal
 
 -- what has been read
-read :  (c : tie.After-known-told2) → let h = c.before.before.before.before.before.before.before in let a = h.before.before.before.before.args in Hours a.t.now a.at a.most h.h.given.0.0 c.before.m.given.0.0
+read : (c : goal.In-Value-ranged) → let a = c.args in Hours a.t.now a.at a.most c.in-Value.h c.in-Value-ranged.m
 read c =
-    let m = c.before in
-    let h = m.before.before.before.before.before.before in
-    record {
-      hour-read = sym h.before.before.ranged.ensures ∙ h.h.given.1;
-      colon = m.before.before.before.if1.false;
-      minute-read = sym m.before.before.ranged2.ensures ∙ m.m.given.1;
+            record {
+      hour-read = sym c.ranged.ensures ∙ c.in-Value.is;
+      colon = c.if-t-at-ne58.false;
+      minute-read = sym c.ranged-2.ensures ∙ c.in-Value-ranged.is;
     }
 
 pub returns-in_default : goal.returns-in_default

@@ -7,15 +7,13 @@ use Rattle.clock.proofs.Pieces.{Seconds, read_no, read-not, second-yes, second_f
 use Rattle.clock.proofs.second.Goals as goal
 
 -- what has been read
-read :  (c : tie.After-known-told2) → let m = c.before.before.before.before.before.before.before in Seconds m.before.before.before.before.before.before.args.t.now m.m.given.0.0 c.before.s.given.0.0
+read : (c : goal.In-Value-ranged) → Seconds c.args.t.now c.in-Value.m c.in-Value-ranged.s
 read c =
-    let s = c.before in
-    let m = s.before.before.before.before.before.before in
-    record {
-      letter = m.before.before.before.if1.false;
-      minutes-read = sym m.before.before.minutes.ensures ∙ m.m.given.1;
-      colon = s.before.before.before.if2.false;
-      second-read = sym s.before.before.ranged.ensures ∙ s.s.given.1;
+            record {
+      letter = c.if-t-ne84.false;
+      minutes-read = sym c.minutes.ensures ∙ c.in-Value.is;
+      colon = c.if-t-ne58.false;
+      second-read = sym c.ranged.ensures ∙ c.in-Value-ranged.is;
     }
 
 pub returns-then-t-ne84 : goal.returns-then-t-ne84

@@ -4,8 +4,11 @@ use mathlib.Core.Path.{◌∙◌}
 use native.Mathlib.Omega.{arith}
 use borrow.Author.Tests.{eq-eqb, ne_eqb}
 use Rattle.clock.specs.Time.{signed}
-use Rattle.clock.proofs.Signed.{minus_is, unsigned}
+use Rattle.clock.proofs.Signed.{minus-fits, minus_is, unsigned}
 use Rattle.clock.proofs.with_sign.Goals as goal
+
+pub overflow_sub-result : goal.overflow_sub-result
+overflow_sub-result c = minus-fits _ c.ranges.m.fits
 
 pub returns-then-sign-eq45 : goal.returns-then-sign-eq45
 unfolding signed
