@@ -1,0 +1,26 @@
+-- One test after the other.
+use mathlib.Core.Path.{sym, ap, ◌∙◌}
+use borrow.Author.Tests.{eq-eqb, ne_eqb}
+use Rattle.header.proofs.Reading.{head-refused, head-taken}
+use Rattle.octets.specs.Text.{bytes}
+use Rattle.parts.specs.Originator.{is_known}
+use Rattle.header.proofs.head_of.Goals as goal
+
+pub returns-then-not-stands_at : goal.returns-then-not-stands_at
+unfolding bytes
+returns-then-not-stands_at c = sym (head-refused 0 _ (sym c.stands_at.ensures ∙ c.if-not-stands_at.true))
+
+pub returns-in_default : goal.returns-in_default
+returns-in_default c = sym (head-refused 1 _ (ap is_known (sym c.originator_of.ensures ∙ c.in_default.is)))
+
+pub returns-then-s-ne45 : goal.returns-then-s-ne45
+returns-then-s-ne45 c = sym (head-refused 2 _ (ne_eqb _ _ c.if-s-ne45.true))
+
+pub returns-then-not-event_ok : goal.returns-then-not-event_ok
+returns-then-not-event_ok c = sym (head-refused 3 _ (sym c.event_ok.ensures ∙ c.if-not-event_ok.true))
+
+pub returns : goal.returns
+unfolding bytes
+returns c =
+                let o = sym c.originator_of.ensures ∙ c.in-Known.is in
+    sym (head-taken _ _ (sym c.stands_at.ensures ∙ c.if-not-stands_at.false, (ap is_known o, (eq-eqb _ _ c.if-s-ne45.false, (sym c.event_ok.ensures ∙ c.if-not-event_ok.false, tt)))) o)
