@@ -14,9 +14,7 @@ use Rattle.octets.proofs.Tests.{every-none, every-step, every_first, every_rest,
 use Rattle.values.specs.Value.{value_at}
 use Rattle.values.specs.WorkingSteps.{low, six_digits}
 use Rattle.values.proofs.Copies.{room, kept, whole, is_kept, low-pick}
-use borrow.Author.Rules.{rules}
-use Rattle.values.proofs.six_digits.Statement.{statement}
-use Rattle.values.proofs.six_digits.Tie as tie
+use Rattle.values.proofs.six_digits.Goals as goal
 
 six-not : (v : List ℕ) → (length (take 7 v) ≡ 6 → ⊥) → Bad ≡ six_digits v
 unfolding six_digits
@@ -41,31 +39,11 @@ six-are v d x l e h =
     let n : length v ≡ 6 = ap length (sym w) ∙ h in
     rw (eq-eqb (length v) 6 n, kept 7 v 6 d x h (omega arith) e, w) (num-low v)
 
-slice-aggregate-copy : tie.Need-slice-aggregate-copy
-slice-aggregate-copy c = search rules
+pub copy-n-requires : goal.copy-n-requires
+copy-n-requires c = room 7 (value_at c.args.s.now c.args.at) 0 7 (omega arith)
 
-copy-requires : tie.Need-copy-requires
-copy-requires c κs = room 7 (value_at c.before.before.args.s.now c.before.before.args.at) 0 7 (omega arith)
+pub returns-then-n-ne6 : goal.returns-then-n-ne6
+returns-then-n-ne6 c = six-not _ (λ e. c.if-n-ne6.true (c.copy-n.ensures.value ∙ e))
 
-returns : tie.Need-returns
-returns c = six-not _ (λ e. c.if1.true (c.before.before.copy.ensures.0 ∙ e))
-
-slice-aggregate-number : tie.Need-slice-aggregate-number
-slice-aggregate-number c = search rules
-
-number-requires : tie.Need-number-requires
-number-requires c κs = search rules
-
-returns-2 : tie.Need-returns-2
-returns-2 c = c.number.ensures ∙ six-are _ _ _ refl c.before.before.before.before.copy.ensures.1 (sym c.before.before.before.before.copy.ensures.0 ∙ c.before.before.if1.false)
-
-pub six-digits-spec : {M : Type 1} → statement M
-six-digits-spec =
-    tie.close
-    (tie.spec
-    slice-aggregate-copy
-    copy-requires
-    returns
-    slice-aggregate-number
-    number-requires
-    returns-2)
+pub returns : goal.returns
+returns c = c.number.ensures ∙ six-are _ _ _ refl c.copy-n.ensures.out_after (sym c.copy-n.ensures.value ∙ c.if-n-ne6.false)
