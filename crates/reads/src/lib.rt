@@ -7,7 +7,7 @@ ghost use Rattle.reads.specs.Names.{local_at, alert_context, info_context, later
 ghost use Rattle.reads.specs.WorkingSteps.{event_step, parameter_row, audio_of, audio_step, english, is_nothing};
 
 // A leaf: where the value of the first begins, how often it stands (0, 1, and 2 for more), and whether one of them holds an element.
-#[derive(Drop)]
+#[derive(Clone, Copy)]
 pub struct Leaf {
     pub at: usize,
     pub count: u32,
