@@ -1,0 +1,22 @@
+-- The value's place in the table, counted from 1.
+use mathlib.Core.Path.{refl}
+use Rattle.octets.specs.Text.{bytes}
+use Rattle.values.specs.Value.{value_at}
+use Rattle.words.specs.WorkingWords.{words_of}
+use Rattle.fields.specs.WorkingFields.{index_in, statuses}
+use Rattle.fields.proofs.Places.{Counted, counted}
+use Rattle.fields.proofs.status_at.Goals as goal
+
+told : (c : goal.Then-k-lt5) → let a = c.args in Counted 5 c.which_value-k.result (index_in statuses (value_at a.s.now a.at))
+unfolding bytes words_of
+told c = counted statuses _ _ refl c.which_value-k.ensures
+
+told-at-Else-k-lt5 : (c : goal.Else-k-lt5) → let a = c.args in Counted 5 c.which_value-k.result (index_in statuses (value_at a.s.now a.at))
+unfolding bytes words_of
+told-at-Else-k-lt5 c = counted statuses _ _ refl c.which_value-k.ensures
+
+pub returns-then-k-lt5 : goal.returns-then-k-lt5
+returns-then-k-lt5 c = (told c).inside c.if-k-lt5.true
+
+pub returns : goal.returns
+returns c = (told-at-Else-k-lt5 c).past c.if-k-lt5.false
