@@ -15,7 +15,7 @@ pub struct Leaf {
 }
 
 // The eventCodes: those named SAME; and whether one is at fault.
-#[derive(Drop)]
+#[derive(Clone, Copy)]
 pub struct Events {
     pub same: Leaf,
     pub fault: bool,
@@ -33,14 +33,14 @@ pub const BROADCAST_TEXT: usize = 3;
 pub const PARAMETERS: usize = 4;
 
 // The parameters that are read; and whether one is at fault.
-#[derive(Drop)]
+#[derive(Clone, Copy)]
 pub struct Parameters {
     pub leaf: [Leaf; PARAMETERS],
     pub fault: bool,
 }
 
 // The geocodes named SAME: the first 31 that are six digits, zeros behind them; whether one is not; and whether a geocode is at fault.
-#[derive(Drop)]
+#[derive(Clone, Copy)]
 pub struct Locations {
     pub count: usize,
     pub list: [u32; 31],
@@ -49,7 +49,7 @@ pub struct Locations {
 }
 
 // The audio choice of the resources: where its uri begins, and its number; and whether a resource is at fault.
-#[derive(Drop)]
+#[derive(Clone, Copy)]
 pub struct Audio {
     pub uri: usize,
     pub number: u32,
@@ -68,7 +68,7 @@ pub const DESCRIPTION: usize = 3;
 pub const INSTRUCTION: usize = 4;
 
 // What is read in an info.
-#[derive(Drop)]
+#[derive(Clone, Copy)]
 pub struct Info {
     pub leaf: [Leaf; 5],
     pub events: Events,
@@ -93,7 +93,7 @@ pub const SCOPE: usize = 5;
 pub const REFERENCES: usize = 6;
 
 // Of the infos one is kept: none yet, the first, or the one that is selected.
-#[derive(Drop)]
+#[derive(Clone, Copy)]
 pub enum Kept {
     Nothing,
     First,
@@ -101,7 +101,7 @@ pub enum Kept {
 }
 
 // What is read in an alert; the info that is kept; and whether the language of one is at fault.
-#[derive(Drop)]
+#[derive(Clone, Copy)]
 pub struct Alert {
     pub leaf: [Leaf; 7],
     pub info: Info,
@@ -110,7 +110,7 @@ pub struct Alert {
 }
 
 // The alert so far, the info that is being read, and the two leaves of the eventCode, parameter, geocode or resource that is.
-#[derive(Drop)]
+#[derive(Clone, Copy)]
 pub struct State {
     pub alert: Alert,
     pub info: Info,
@@ -118,7 +118,7 @@ pub struct State {
 }
 
 // The element whose content is being read.
-#[derive(Drop)]
+#[derive(Clone, Copy)]
 pub enum Context {
     Root,
     Alert,
