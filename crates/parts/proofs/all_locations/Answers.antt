@@ -1,5 +1,5 @@
 use Prim.Native.Nat.{◌-◌}
-use mathlib.Core.Path.{◌≡◌, refl, sym}
+use mathlib.Core.Path.{◌≡◌, sym}
 use native.Mathlib.Omega.{arith}
 use lib.ListN.{length, take}
 use lib.Seq.{get_or-take, length-take-le}
@@ -8,9 +8,6 @@ use borrow.Author.Tests.{lt-ltb, le-ltb}
 use Rattle.octets.proofs.Everys.{every-on, every-broken, every-ended}
 use Rattle.parts.specs.Parts.{is_location}
 use Rattle.parts.proofs.all_locations.Goals as goal
-
-pub loop-i-init : goal.loop-i-init
-loop-i-init c = (search rules, refl)
 
 pub returns-then-list-i-ge1000000 : goal.returns-then-list-i-ge1000000
 unfolding is_location

@@ -1,8 +1,7 @@
 use Prim.Native.Nat.{ℕ, ◌+◌, ◌-◌, ◌*◌, ◌/◌}
 use mathlib.Core.Bool.{true}
 use mathlib.Core.List.{List}
-use mathlib.Core.Path.{refl, sym, ap, ◌∙◌}
-use native.Mathlib.Nat.{sub-zero}
+use mathlib.Core.Path.{sym, ap, ◌∙◌}
 use native.Mathlib.Omega.{arith}
 use lib.ListN.{length, length-set}
 use lib.Seq.{sets}
@@ -12,7 +11,6 @@ use Rattle.octets.proofs.Numbers.{num-value, num-none}
 use Rattle.octets.proofs.Runs.{sets_more}
 use Rattle.octets.proofs.Tests.{every_of}
 use Rattle.parts.proofs.Asking.{sixes-cut, sixes-last, digits-on, digits-broken, digits-ended, sixes-refused, sixes-taken}
-use Rattle.parts.specs.Parts.{padded}
 use Rattle.parts.specs.WorkingAsked.{sixes, sixes_tests, sixes_ok}
 use Rattle.parts.proofs.asked_locations.Goals as goal
 
@@ -21,11 +19,6 @@ returns-then-len-gt186 c = sym (sixes-refused 0 _ (lt-leb _ _ c.if-len-gt186.tru
 
 pub returns-then-len-n : goal.returns-then-len-n
 returns-then-len-n c = sym (sixes-refused 1 _ (ne_eqb _ _ c.if-len-n.true))
-
-pub loop-k-init : goal.loop-k-init
-loop-k-init c =
-    let s = c.args.s.now in
-    (search rules, refl, refl, ap (λ (m : ℕ). padded (sixes m s 0)) (sub-zero (length s / 6)))
 
 pub returns-in_default : goal.returns-in_default
 returns-in_default c =

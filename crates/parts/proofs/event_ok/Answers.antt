@@ -1,5 +1,5 @@
 use Prim.Native.Nat.{◌-◌}
-use mathlib.Core.Path.{refl, sym, ◌∙◌}
+use mathlib.Core.Path.{sym, ◌∙◌}
 use borrow.Author.Rules.{rules}
 use borrow.Author.Tests.{eq-eqb, ne_eqb}
 use Rattle.octets.proofs.Everys.{every-on, every-broken, every-ended}
@@ -11,9 +11,6 @@ use Rattle.parts.proofs.event_ok.Goals as goal
 pub returns-then-t-ne3 : goal.returns-then-t-ne3
 unfolding event_ok
 returns-then-t-ne3 c = sym (one-fails 0 (event_tests c.args.t.now) (ne_eqb _ _ c.if-t-ne3.true))
-
-pub loop-i-init : goal.loop-i-init
-loop-i-init c = (search rules, refl)
 
 pub returns-then-not-is_capital : goal.returns-then-not-is_capital
 unfolding event_ok

@@ -1,5 +1,5 @@
 use Prim.Native.Nat.{◌-◌}
-use mathlib.Core.Path.{refl, sym, ◌∙◌}
+use mathlib.Core.Path.{sym, ◌∙◌}
 use borrow.Author.Rules.{rules}
 use borrow.Author.Tests.{eq-eqb, ne_eqb}
 use Rattle.octets.proofs.Everys.{every-on, every-broken, every-ended}
@@ -10,9 +10,6 @@ use Rattle.parts.proofs.station_ok.Goals as goal
 pub returns-then-t-ne8 : goal.returns-then-t-ne8
 unfolding station_ok
 returns-then-t-ne8 c = sym (one-fails 0 (station_tests c.args.t.now) (ne_eqb _ _ c.if-t-ne8.true))
-
-pub loop-i-init : goal.loop-i-init
-loop-i-init c = (search rules, refl)
 
 pub returns-then-not-is_station : goal.returns-then-not-is_station
 unfolding station_ok
