@@ -23,7 +23,7 @@ pub struct Word {
 }
 
 // The msgTypes of CAP 1.2; Unknown where the value is none of them, or there is no such leaf.
-#[derive(Drop)]
+#[derive(Clone, Copy)]
 pub enum MsgType {
     Unknown,
     Alert,
