@@ -13,21 +13,21 @@ ghost use Rattle.clock.specs.Written.{tttt, jjjhhmm};
 use octets::Num;
 
 // What a time reads as: an instant, in seconds since 2000 began in UTC.
-#[derive(Drop)]
+#[derive(Clone, Copy)]
 pub enum Time {
     At(u32),
     Bad,
 }
 
 // A day in its year, the first being 1.
-#[derive(Drop)]
+#[derive(Clone, Copy)]
 pub struct YearDay {
     pub year: u32,
     pub day: u32,
 }
 
 // An instant in UTC, its seconds dropped.
-#[derive(Drop)]
+#[derive(Clone, Copy)]
 pub struct Stamp {
     pub year: u32,
     pub day: u32,
