@@ -1,0 +1,52 @@
+-- The name behind the prefix, and then the namespace.
+use mathlib.Core.Path.{◌≡◌, sym, ap, ◌∙◌}
+use Prim.Native.Nat.{ℕ, ◌-◌}
+use native.Mathlib.Omega.{arith}
+use lib.ListN.{length}
+use mathlib.Core.Bool.{true, false}
+use mathlib.Core.List.{◌++◌}
+use Rattle.octets.specs.Bytes.{part, same}
+use Rattle.octets.specs.Text.{bytes}
+use Rattle.pieces.specs.declared.End.TheVariants.{At, No}
+use Rattle.tags.specs.Attributes.{attr_named}
+use Rattle.tags.proofs.Goes.{named-goes}
+use Rattle.reads.specs.Names.{name_of}
+use Rattle.reads.proofs.Locals.{local-ends}
+use Rattle.message.specs.Root.{is_namespace, root_with}
+use borrow.Author.Rules.{rules}
+use Rattle.message.proofs.is_root.Goals as goal
+
+pub slice_bounds-equal-count : goal.slice_bounds-equal-count
+slice_bounds-equal-count c = let a = c.args in let l = local-ends a.s.now a.p.now a.from a.to (search rules) in omega arith
+
+pub slice_bounds-equal-start : goal.slice_bounds-equal-start
+slice_bounds-equal-start c = let a = c.args in let l = local-ends a.s.now a.p.now a.from a.to (search rules) in omega arith
+
+pub returns-then-not-equal : goal.returns-then-not-equal
+unfolding root_with bytes
+returns-then-not-equal c =
+    let a = c.args in
+    let e : same (name_of a.s.now a.p.now a.from a.to) (bytes "alert") ≡ false = ap (λ (x : ℕ). same (part a.s.now x (a.to - x)) (bytes "alert")) (sym c.local-at.ensures) ∙ sym c.equal.ensures ∙ c.if-not-equal.true in
+    rw e
+
+pub value_is-requires : goal.value_is-requires
+value_is-requires c =
+    let a = c.args in
+    let f : attr_named a.s.now (a.lead.now ++ a.rest.now) a.to (length a.s.now) ≡ At c.in-At.q = sym c.find-v.ensures ∙ c.in-At.is in
+    (rw f at (named-goes a.s.now (a.lead.now ++ a.rest.now) a.to (length a.s.now) (search rules))).1
+
+pub returns-in-At : goal.returns-in-At
+unfolding root_with is_namespace bytes
+returns-in-At c =
+    let a = c.args in
+    let e : same (name_of a.s.now a.p.now a.from a.to) (bytes "alert") ≡ true = ap (λ (x : ℕ). same (part a.s.now x (a.to - x)) (bytes "alert")) (sym c.local-at.ensures) ∙ sym c.equal.ensures ∙ c.if-not-equal.false in
+    let f : attr_named a.s.now (a.lead.now ++ a.rest.now) a.to (length a.s.now) ≡ At c.in-At.q = sym c.find-v.ensures ∙ c.in-At.is in
+    rw (e, f) c.value_is.ensures
+
+pub returns-in-No : goal.returns-in-No
+unfolding root_with is_namespace bytes
+returns-in-No c =
+    let a = c.args in
+    let e : same (name_of a.s.now a.p.now a.from a.to) (bytes "alert") ≡ true = ap (λ (x : ℕ). same (part a.s.now x (a.to - x)) (bytes "alert")) (sym c.local-at.ensures) ∙ sym c.equal.ensures ∙ c.if-not-equal.false in
+    let f : attr_named a.s.now (a.lead.now ++ a.rest.now) a.to (length a.s.now) ≡ No = sym c.find-v.ensures ∙ c.in-No.is in
+    rw (e, f)

@@ -1,0 +1,11 @@
+-- By the test.
+use Rattle.message.specs.WorkingMessage.{root_context}
+use Rattle.message.proofs.root_context.Goals as goal
+
+pub returns-then-ok : goal.returns-then-ok
+unfolding root_context
+returns-then-ok c = rw c.if-ok.true
+
+pub returns : goal.returns
+unfolding root_context
+returns c = rw c.if-ok.false

@@ -1,0 +1,12 @@
+-- A leaf that is not the only one is none; else its value decides.
+use mathlib.Core.Path.{sym, ◌∙◌}
+use Rattle.message.specs.WorkingJudged.{timed}
+use Rattle.message.proofs.time_of.Goals as goal
+
+pub returns-then-not-is_only : goal.returns-then-not-is_only
+unfolding timed
+returns-then-not-is_only c = rw (sym c.is_only.ensures ∙ c.if-not-is_only.true)
+
+pub returns : goal.returns
+unfolding timed
+returns c = rw (sym c.is_only.ensures ∙ c.if-not-is_only.false) c.time_at.ensures
