@@ -17,7 +17,7 @@ use reader::Reader;
 use reads::{Alert, Context, Info, Leaf};
 
 // What a message says: its number and field; its msgType; the instant of sent; and what is read in its alert. After 4, 5 and 6 nothing is read.
-#[derive(Drop)]
+#[derive(Clone, Copy)]
 pub struct Message {
     pub number: u32,
     pub field: u32,
