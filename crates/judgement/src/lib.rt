@@ -12,7 +12,7 @@ use parts::{Body, Origin, Originator};
 use reads::{Leaf, Locations};
 
 // The event of a header, or that there is none.
-#[derive(Drop)]
+#[derive(Clone, Copy)]
 pub struct Event {
     pub ok: bool,
     pub code: [u8; 3],
@@ -20,7 +20,7 @@ pub struct Event {
 
 // A message with its number and field of 4 to 14; whether it is a quiet Cancel; and, after 0 where it is not, the header through the dash after
 // JJJHHMM.
-#[derive(Drop)]
+#[derive(Clone, Copy)]
 pub struct Judged {
     pub number: u32,
     pub field: u32,
