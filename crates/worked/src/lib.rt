@@ -1,1 +1,2 @@
 // Worked examples on whole messages. No code.
+#![tactic(auto)]
