@@ -2,6 +2,5 @@ pub mod Boards
 pub mod Finds
 pub mod Answers
 pub mod Fills
-pub mod Walks
 pub mod Keeps
 pub mod Demand3

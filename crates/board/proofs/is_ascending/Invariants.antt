@@ -1,0 +1,13 @@
+-- All are ascending if those from record i on are.
+use Prim.Native.Nat.{◌-◌, ◌≤◌}
+use mathlib.Core.Path.{◌≡◌}
+use lib.ListN.{drop}
+use Rattle.ledger.specs.Sorted.{ascending}
+use Rattle.slots.specs.Slots.{recs}
+use Rattle.board.proofs.is_ascending.Given as goal
+
+abbrev pub invariant-loop-i : goal.invariant-loop-i
+invariant-loop-i l = (l.i ≤ l.n) × (ascending (recs l.n l.s) ≡ ascending (drop l.i (recs l.n l.s)))
+
+abbrev pub decreases-loop-i : goal.decreases-loop-i
+decreases-loop-i l = l.n - l.i
