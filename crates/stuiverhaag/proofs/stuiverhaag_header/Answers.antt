@@ -1,0 +1,11 @@
+-- The answer of convert::header is packed; each of its parts fits the bits that it has.
+use mathlib.Core.Path.{ap, ◌∙◌}
+use Rattle.stuiverhaag.proofs.Packing.{header-narrow}
+use Rattle.stuiverhaag.specs.Packed.{packed_headed}
+use Rattle.stuiverhaag.proofs.stuiverhaag_header.Goals as goal
+
+pub pack_headed-requires : goal.pack_headed-requires
+pack_headed-requires c = header-narrow _ _ _ c.header-c.result c.header-c.ensures.value
+
+pub returns : goal.returns
+returns c = record { value = c.pack_headed.ensures ∙ ap packed_headed c.header-c.ensures.value; header_after = c.header-c.ensures.out_after }
