@@ -37,17 +37,17 @@ use Rattle.stuiverhaag.proofs.stuiverhaag_read_header.Reads as host-read
 use Rattle.stuiverhaag.proofs.stuiverhaag_write_header.Reads as host-write
 use Rattle.stuiverhaag.proofs.stuiverhaag_offer.Reads as host-offer
 use Rattle.stuiverhaag.proofs.stuiverhaag_hand_out.Reads as host-hand-out
-use Rattle.demands.proofs.Arguments.{Lifetimes, Lent, Slices, Rows, Named}
+use Rattle.demands.proofs.Arguments.{Lifetimes, Lent, Output, Outputs, Behind, Slices, Rows, Named}
 
 -- ---- the calls for a host in C
 
-pub host-header-asks-nothing : (κs : Lifetimes 3) (a : Slices 3) → host-header.Asked κs a
+pub host-header-asks-nothing : (κs : Lifetimes 3) (a : Behind 2 (Outputs 1)) → host-header.Asked κs a
 host-header-asks-nothing κs a = tt
 
-pub host-text-asks-nothing : (κs : Lifetimes 4) (a : Slices 4) → host-text.Asked κs a
+pub host-text-asks-nothing : (κs : Lifetimes 4) (a : Behind 2 (Outputs 2)) → host-text.Asked κs a
 host-text-asks-nothing κs a = tt
 
-pub host-canadian-asks-nothing : (κs : Lifetimes 3) (a : Slices 3) → host-canadian.Asked κs a
+pub host-canadian-asks-nothing : (κs : Lifetimes 3) (a : Behind 1 (Outputs 2)) → host-canadian.Asked κs a
 host-canadian-asks-nothing κs a = tt
 
 pub host-read-asks-nothing : (κs : Lifetimes 1) (a : Slices 1) → host-read.Asked κs a
@@ -56,10 +56,10 @@ host-read-asks-nothing κs a = tt
 pub host-write-asks-nothing : (κs : Lifetimes 4) (a : Named) → host-write.Asked κs a
 host-write-asks-nothing κs a = tt
 
-pub host-offer-asks-nothing : (κs : Lifetimes 2) (a : Slices 2) → host-offer.Asked κs a
+pub host-offer-asks-nothing : (κs : Lifetimes 2) (a : Output × Slices 1) → host-offer.Asked κs a
 host-offer-asks-nothing κs a = tt
 
-pub host-hand-out-asks-nothing : (κs : Lifetimes 1) (a : Slices 1) → host-hand-out.Asked κs a
+pub host-hand-out-asks-nothing : (κs : Lifetimes 1) (a : Outputs 1) → host-hand-out.Asked κs a
 host-hand-out-asks-nothing κs a = tt
 
 -- ---- times and headers
@@ -76,7 +76,7 @@ read-header-asks-nothing κs a = tt
 pub read-body-asks-nothing : (κs : Lifetimes 1) (a : Slices 1) → read-body.Asked κs a
 read-body-asks-nothing κs a = tt
 
-pub write-header-asks-nothing : (κs : Lifetimes 1) (a : Lent × (Parts × Unit {0})) → write-header.Asked κs a
+pub write-header-asks-nothing : (κs : Lifetimes 1) (a : Output × (Parts × Unit {0})) → write-header.Asked κs a
 write-header-asks-nothing κs a = tt
 
 pub write-asked-asks-nothing : (κs : Lifetimes 4) (a : Named) → write-asked.Asked κs a
@@ -90,16 +90,16 @@ read-asks-nothing κs a = tt
 pub judge-asks-nothing : (κs : Lifetimes 1) (a : Slices 1) → judge.Asked κs a
 judge-asks-nothing κs a = tt
 
-pub header-asks-nothing : (κs : Lifetimes 3) (a : Slices 3) → header.Asked κs a
+pub header-asks-nothing : (κs : Lifetimes 3) (a : Behind 2 (Outputs 1)) → header.Asked κs a
 header-asks-nothing κs a = tt
 
-pub text-asks-nothing : (κs : Lifetimes 4) (a : Slices 4) → text.Asked κs a
+pub text-asks-nothing : (κs : Lifetimes 4) (a : Behind 2 (Outputs 2)) → text.Asked κs a
 text-asks-nothing κs a = tt
 
-pub canadian-asks-nothing : (κs : Lifetimes 3) (a : Slices 3) → canadian.Asked κs a
+pub canadian-asks-nothing : (κs : Lifetimes 3) (a : Behind 1 (Outputs 2)) → canadian.Asked κs a
 canadian-asks-nothing κs a = tt
 
-pub program-asks-nothing : (κs : Lifetimes 2) (a : Slices 2) → program.Asked κs a
+pub program-asks-nothing : (κs : Lifetimes 2) (a : Behind 1 (Outputs 1)) → program.Asked κs a
 program-asks-nothing κs a = tt
 
 -- ---- boards
@@ -116,10 +116,10 @@ is-board-asks-nothing κs a = tt
 pub filled-asks-nothing : (κs : Lifetimes 1) (a : Slices 1) → filled.Asked κs a
 filled-asks-nothing κs a = tt
 
-pub offer-asks-nothing : (κs : Lifetimes 2) (a : Slices 2) → offer.Asked κs a
+pub offer-asks-nothing : (κs : Lifetimes 2) (a : Output × Slices 1) → offer.Asked κs a
 offer-asks-nothing κs a = tt
 
-pub hand-out-asks-nothing : (κs : Lifetimes 1) (a : Slices 1) → hand-out.Asked κs a
+pub hand-out-asks-nothing : (κs : Lifetimes 1) (a : Outputs 1) → hand-out.Asked κs a
 hand-out-asks-nothing κs a = tt
 
 -- Asked is not made of a contract with a slice of structs: in any model, what the list's `requires` says follows from whatever a caller has

@@ -54,7 +54,7 @@ use Rattle.stuiverhaag.proofs.stuiverhaag_read_header.Reads as host-read
 use Rattle.stuiverhaag.proofs.stuiverhaag_write_header.Reads as host-write
 use Rattle.stuiverhaag.proofs.stuiverhaag_offer.Reads as host-offer
 use Rattle.stuiverhaag.proofs.stuiverhaag_hand_out.Reads as host-hand-out
-use Rattle.demands.proofs.Arguments.{Lifetimes, Lent, Slices, Rows, Named, out_of}
+use Rattle.demands.proofs.Arguments.{Lifetimes, Lent, Output, Outputs, Behind, Slices, Rows, Named, out_of}
 use Rattle.demands.proofs.Ties.{list-is-listing}
 
 -- what equals the same is equal
@@ -75,7 +75,7 @@ read-header-determined κs a x x' r r' p q = one p q
 pub read-body-determined : (κs : Lifetimes 1) (a x x' : Slices 1) (r r' : BodyRead) → read-body.Learnt κs a r x → read-body.Learnt κs a r' x' → r ≡ r'
 read-body-determined κs a x x' r r' p q = one p q
 
-pub write-header-determined : (κs : Lifetimes 1) (a x x' : Lent × (Parts × Unit {0})) (r r' : Written) →
+pub write-header-determined : (κs : Lifetimes 1) (a x x' : Output × (Parts × Unit {0})) (r r' : Written) →
     write-header.Learnt κs a r x → write-header.Learnt κs a r' x' → (r ≡ r') × (x.0.now ≡ x'.0.now)
 write-header-determined κs a x x' r r' p q = (one p.0 q.0, one p.1 q.1)
 
@@ -92,15 +92,15 @@ pub judge-determined : (κs : Lifetimes 1) (a x x' : Slices 1) (r r' : Judged) �
 judge-determined κs a x x' r r' p q = one p q
 
 -- header, or text and uri, stand behind message and station
-pub header-determined : (κs : Lifetimes 3) (a x x' : Slices 3) (r r' : Headed) →
+pub header-determined : (κs : Lifetimes 3) (a x x' : Behind 2 (Outputs 1)) (r r' : Headed) →
     header.Learnt κs a r x → header.Learnt κs a r' x' → (r ≡ r') × (x.1.1.0.now ≡ x'.1.1.0.now)
 header-determined κs a x x' r r' p q = (one p.0 q.0, one p.1 q.1)
 
-pub text-determined : (κs : Lifetimes 4) (a x x' : Slices 4) (r r' : TextAudio) →
+pub text-determined : (κs : Lifetimes 4) (a x x' : Behind 2 (Outputs 2)) (r r' : TextAudio) →
     text.Learnt κs a r x → text.Learnt κs a r' x' → (r ≡ r') × ((x.1.1.0.now ≡ x'.1.1.0.now) × (x.1.1.1.0.now ≡ x'.1.1.1.0.now))
 text-determined κs a x x' r r' p q = (one p.0 q.0, (one p.1.0 q.1.0, one p.1.1 q.1.1))
 
-pub canadian-determined : (κs : Lifetimes 3) (a x x' : Slices 3) (r r' : TextAudio) → canadian.Learnt κs a r x → canadian.Learnt κs a r' x' →
+pub canadian-determined : (κs : Lifetimes 3) (a x x' : Behind 1 (Outputs 2)) (r r' : TextAudio) → canadian.Learnt κs a r x → canadian.Learnt κs a r' x' →
     (r ≡ r') × ((x.1.0.now ≡ x'.1.0.now) × (x.1.1.0.now ≡ x'.1.1.0.now))
 canadian-determined κs a x x' r r' p q = (one p.0 q.0, (one p.1.0 q.1.0, one p.1.1 q.1.1))
 
@@ -118,11 +118,11 @@ is-board-determined κs a x x' r r' p q = one p q
 pub filled-determined : (κs : Lifetimes 1) (a x x' : Slices 1) (r r' : ℕ) → filled.Learnt κs a r x → filled.Learnt κs a r' x' → r ≡ r'
 filled-determined κs a x x' r r' p q = one p q
 
-pub offer-determined : (κs : Lifetimes 2) (a x x' : Slices 2) (r r' : Offered) →
+pub offer-determined : (κs : Lifetimes 2) (a x x' : Output × Slices 1) (r r' : Offered) →
     offer.Learnt κs a r x → offer.Learnt κs a r' x' → (r ≡ r') × (x.0.now ≡ x'.0.now)
 offer-determined κs a x x' r r' p q = (one p.0 q.0, one p.1.0 q.1.0)
 
-pub hand-out-determined : (κs : Lifetimes 1) (a x x' : Slices 1) (r r' : Handed) →
+pub hand-out-determined : (κs : Lifetimes 1) (a x x' : Outputs 1) (r r' : Handed) →
     hand-out.Learnt κs a r x → hand-out.Learnt κs a r' x' → (r ≡ r') × (x.0.now ≡ x'.0.now)
 hand-out-determined κs a x x' r r' p q = (one p.0 q.0, one p.1.0 q.1.0)
 
@@ -144,21 +144,21 @@ list-rows-determined κs a x x' r r' p q = ap₂ (λ (l : Listed) (rows : List R
 
 -- ---- the program's lines
 
-pub program-determined : (κs : Lifetimes 2) (a x x' : Slices 2) (r r' : ℕ) →
+pub program-determined : (κs : Lifetimes 2) (a x x' : Behind 1 (Outputs 1)) (r r' : ℕ) →
     program.Learnt κs a r x → program.Learnt κs a r' x' → (r ≡ r') × (x.1.0.now ≡ x'.1.0.now)
 program-determined κs a x x' r r' p q = (one p.0 q.0, one p.1 q.1)
 
 -- ---- the calls for a host in C
 
-pub host-header-determined : (κs : Lifetimes 3) (a x x' : Slices 3) (r r' : ℕ) →
+pub host-header-determined : (κs : Lifetimes 3) (a x x' : Behind 2 (Outputs 1)) (r r' : ℕ) →
     host-header.Learnt κs a r x → host-header.Learnt κs a r' x' → (r ≡ r') × (x.1.1.0.now ≡ x'.1.1.0.now)
 host-header-determined κs a x x' r r' p q = (one p.0 q.0, one p.1 q.1)
 
-pub host-text-determined : (κs : Lifetimes 4) (a x x' : Slices 4) (r r' : ℕ) →
+pub host-text-determined : (κs : Lifetimes 4) (a x x' : Behind 2 (Outputs 2)) (r r' : ℕ) →
     host-text.Learnt κs a r x → host-text.Learnt κs a r' x' → (r ≡ r') × ((x.1.1.0.now ≡ x'.1.1.0.now) × (x.1.1.1.0.now ≡ x'.1.1.1.0.now))
 host-text-determined κs a x x' r r' p q = (one p.0 q.0, (one p.1.0 q.1.0, one p.1.1 q.1.1))
 
-pub host-canadian-determined : (κs : Lifetimes 3) (a x x' : Slices 3) (r r' : ℕ) → host-canadian.Learnt κs a r x → host-canadian.Learnt κs a r' x' →
+pub host-canadian-determined : (κs : Lifetimes 3) (a x x' : Behind 1 (Outputs 2)) (r r' : ℕ) → host-canadian.Learnt κs a r x → host-canadian.Learnt κs a r' x' →
     (r ≡ r') × ((x.1.0.now ≡ x'.1.0.now) × (x.1.1.0.now ≡ x'.1.1.0.now))
 host-canadian-determined κs a x x' r r' p q = (one p.0 q.0, (one p.1.0 q.1.0, one p.1.1 q.1.1))
 
@@ -169,10 +169,10 @@ pub host-write-determined : (κs : Lifetimes 4) (a x x' : Named) (r r' : ℕ) �
     host-write.Learnt κs a r x → host-write.Learnt κs a r' x' → (r ≡ r') × ((out_of x).now ≡ (out_of x').now)
 host-write-determined κs a x x' r r' p q = (one p.0 q.0, one p.1 q.1)
 
-pub host-offer-determined : (κs : Lifetimes 2) (a x x' : Slices 2) (r r' : ℕ) →
+pub host-offer-determined : (κs : Lifetimes 2) (a x x' : Output × Slices 1) (r r' : ℕ) →
     host-offer.Learnt κs a r x → host-offer.Learnt κs a r' x' → (r ≡ r') × (x.0.now ≡ x'.0.now)
 host-offer-determined κs a x x' r r' p q = (one p.0 q.0, one p.1 q.1)
 
-pub host-hand-out-determined : (κs : Lifetimes 1) (a x x' : Slices 1) (r r' : ℕ) →
+pub host-hand-out-determined : (κs : Lifetimes 1) (a x x' : Outputs 1) (r r' : ℕ) →
     host-hand-out.Learnt κs a r x → host-hand-out.Learnt κs a r' x' → (r ≡ r') × (x.0.now ≡ x'.0.now)
 host-hand-out-determined κs a x x' r r' p q = (one p.0 q.0, one p.1 q.1)

@@ -10,11 +10,11 @@ use lib.Dec.{ltb}
 use lib.ListN.{length}
 use lib.Seq.{sets}
 use seplogic.Ra.Ura.{Ura}
-use base.Logic.{SProp, ent}
+use base.Logic.{SProp, ent, sep, via, fst∗, snd∗}
 use prog.Memory.{Memory}
 use prog.Routine.{Routine}
 use types.Logic.{Logic}
-use contract.Monad.{Fun, fact}
+use contract.Monad.{Fun, fact, fact_i, fact_use}
 use Rattle.octets.specs.Bytes.{pick}
 use Rattle.octets.specs.Text.{bytes}
 use Rattle.parts.specs.WorkingAsked.{asked_parts}
@@ -39,7 +39,6 @@ use Rattle.board.specs.declared.Rows as board-rows
 use Rattle.board.proofs.hand_out.Reads as hand-out
 use Rattle.board.specs.contracts.list as list
 use Rattle.board.proofs.list_rows.Reads as list-rows
-use Rattle.board.proofs.Walks.{said}
 use Rattle.offers.specs.Offer.{MessageOffering}
 use Rattle.offers.specs.declared.Offered.{Offered}
 use Rattle.offers.proofs.offer.Reads as offer
@@ -54,59 +53,59 @@ use Rattle.stuiverhaag.proofs.stuiverhaag_write_header.Reads as host-write
 use Rattle.stuiverhaag.proofs.stuiverhaag_offer.Reads as host-offer
 use Rattle.stuiverhaag.proofs.stuiverhaag_hand_out.Reads as host-hand-out
 use Rattle.demands.specs.Calls.{Writing, library}
-use Rattle.demands.proofs.Arguments.{Lifetimes, Lent, Slices, Rows, Named, out_of}
+use Rattle.demands.proofs.Arguments.{Lifetimes, Lent, Output, Outputs, Behind, Slices, Rows, Named, out_of}
 
 -- ---- conversions
 
 -- of a message, for a station, into a header
-abbrev headed : Slices 3 → HeaderOutcome
+abbrev headed : Behind 2 (Outputs 1) → HeaderOutcome
 headed a = library.heading a.0.now a.1.0.now (length a.1.1.0.now)
 
 -- the output at exit begins with what is given, and is as it was behind it
-abbrev FilledHeader : Slices 3 → Slices 3 → Type 0
+abbrev FilledHeader : Behind 2 (Outputs 1) → Behind 2 (Outputs 1) → Type 0
 FilledHeader a x = x.1.1.0.now ≡ sets a.1.1.0.now 0 (headed a).given.header
 
-pub header-is-heading : (κs : Lifetimes 3) (a x : Slices 3) (r : Headed) → header.Learnt κs a r x → (r ≡ header_answer_of (headed a)) × FilledHeader a x
+pub header-is-heading : (κs : Lifetimes 3) (a x : Behind 2 (Outputs 1)) (r : Headed) → header.Learnt κs a r x → (r ≡ header_answer_of (headed a)) × FilledHeader a x
 header-is-heading κs a x r p = p
 
-pub host-header-is-heading : (κs : Lifetimes 3) (a x : Slices 3) (r : ℕ) → host-header.Learnt κs a r x → (r ≡ packed_headed (header_answer_of (headed a))) × FilledHeader a x
+pub host-header-is-heading : (κs : Lifetimes 3) (a x : Behind 2 (Outputs 1)) (r : ℕ) → host-header.Learnt κs a r x → (r ≡ packed_headed (header_answer_of (headed a))) × FilledHeader a x
 host-header-is-heading κs a x r p = p
 
 -- of a message, for a station, into a text and a uri
-abbrev worded : Slices 4 → TextOutcome
+abbrev worded : Behind 2 (Outputs 2) → TextOutcome
 worded a = library.texting a.0.now a.1.0.now (length a.1.1.0.now) (length a.1.1.1.0.now)
 
-abbrev FilledText : Slices 4 → Slices 4 → Type 0
+abbrev FilledText : Behind 2 (Outputs 2) → Behind 2 (Outputs 2) → Type 0
 FilledText a x =
     (x.1.1.0.now ≡ sets a.1.1.0.now 0 (worded a).given.text) × (x.1.1.1.0.now ≡ sets a.1.1.1.0.now 0 (worded a).given.uri)
 
-pub text-is-texting : (κs : Lifetimes 4) (a x : Slices 4) (r : TextAudio) → text.Learnt κs a r x → (r ≡ text_answer_of (worded a)) × FilledText a x
+pub text-is-texting : (κs : Lifetimes 4) (a x : Behind 2 (Outputs 2)) (r : TextAudio) → text.Learnt κs a r x → (r ≡ text_answer_of (worded a)) × FilledText a x
 text-is-texting κs a x r p = p
 
-pub host-text-is-texting : (κs : Lifetimes 4) (a x : Slices 4) (r : ℕ) → host-text.Learnt κs a r x → (r ≡ packed_text (text_answer_of (worded a))) × FilledText a x
+pub host-text-is-texting : (κs : Lifetimes 4) (a x : Behind 2 (Outputs 2)) (r : ℕ) → host-text.Learnt κs a r x → (r ≡ packed_text (text_answer_of (worded a))) × FilledText a x
 host-text-is-texting κs a x r p = p
 
 -- of a message in the Canadian mode, into a text and a uri
-abbrev in_canada : Slices 3 → TextOutcome
+abbrev in_canada : Behind 1 (Outputs 2) → TextOutcome
 in_canada a = library.canadian a.0.now (length a.1.0.now) (length a.1.1.0.now)
 
-abbrev FilledInCanada : Slices 3 → Slices 3 → Type 0
+abbrev FilledInCanada : Behind 1 (Outputs 2) → Behind 1 (Outputs 2) → Type 0
 FilledInCanada a x = (x.1.0.now ≡ sets a.1.0.now 0 (in_canada a).given.text) × (x.1.1.0.now ≡ sets a.1.1.0.now 0 (in_canada a).given.uri)
 
-pub canadian-is-canadian : (κs : Lifetimes 3) (a x : Slices 3) (r : TextAudio) → canadian.Learnt κs a r x → (r ≡ text_answer_of (in_canada a)) × FilledInCanada a x
+pub canadian-is-canadian : (κs : Lifetimes 3) (a x : Behind 1 (Outputs 2)) (r : TextAudio) → canadian.Learnt κs a r x → (r ≡ text_answer_of (in_canada a)) × FilledInCanada a x
 canadian-is-canadian κs a x r p = p
 
-pub host-canadian-is-canadian : (κs : Lifetimes 3) (a x : Slices 3) (r : ℕ) →
+pub host-canadian-is-canadian : (κs : Lifetimes 3) (a x : Behind 1 (Outputs 2)) (r : ℕ) →
     host-canadian.Learnt κs a r x → (r ≡ packed_text (text_answer_of (in_canada a))) × FilledInCanada a x
 host-canadian-is-canadian κs a x r p = p
 
 -- the lines that the program prints: none where less room is lent than 8,704 bytes
-abbrev lines_of : Slices 2 → List ℕ
+abbrev lines_of : Behind 1 (Outputs 1) → List ℕ
 lines_of a =
     pick (ltb (length a.1.0.now) 8704) []
     (printed (record { headed = library.heading a.0.now (bytes "BENCH/01") 252; worded = library.texting a.0.now (bytes "BENCH/01") 7200 1024 }))
 
-pub program-is-both : (κs : Lifetimes 2) (a x : Slices 2) (r : ℕ) →
+pub program-is-both : (κs : Lifetimes 2) (a x : Behind 1 (Outputs 1)) (r : ℕ) →
     program.Learnt κs a r x → (r ≡ length (lines_of a)) × (x.1.0.now ≡ sets a.1.0.now 0 (lines_of a))
 unfolding program_of
 program-is-both κs a x r p = p
@@ -119,7 +118,7 @@ read-is-reading κs a x r p = p
 pub host-read-is-reading : (κs : Lifetimes 1) (a x : Slices 1) (r : ℕ) → host-read.Learnt κs a r x → r ≡ packed_read (library.reading a.0.now)
 host-read-is-reading κs a x r p = p
 
-pub write-is-writing : (κs : Lifetimes 1) (a x : Lent × (Parts × Unit {0})) (r : Written) → write-header.Learnt κs a r x →
+pub write-is-writing : (κs : Lifetimes 1) (a x : Output × (Parts × Unit {0})) (r : Written) → write-header.Learnt κs a r x →
     let w = library.writing a.0.now a.1.0 in (r ≡ w.answer) × (x.0.now ≡ w.bytes)
 write-is-writing κs a x r p = p
 
@@ -142,25 +141,33 @@ host-write-is-writing κs a x r p = p
 -- ---- boards
 
 -- of a message to a board
-abbrev offered : Slices 2 → MessageOffering
+abbrev offered : Output × Slices 1 → MessageOffering
 offered a = library.offering a.0.now a.1.0.now
 
-pub offer-is-offering : (κs : Lifetimes 2) (a x : Slices 2) (r : Offered) → offer.Learnt κs a r x → (r ≡ (offered a).answer) × (x.0.now ≡ (offered a).bytes)
+pub offer-is-offering : (κs : Lifetimes 2) (a x : Output × Slices 1) (r : Offered) → offer.Learnt κs a r x → (r ≡ (offered a).answer) × (x.0.now ≡ (offered a).bytes)
 offer-is-offering κs a x r p = (p.0, p.1.0)
 
-pub host-offer-is-offering : (κs : Lifetimes 2) (a x : Slices 2) (r : ℕ) →
+pub host-offer-is-offering : (κs : Lifetimes 2) (a x : Output × Slices 1) (r : ℕ) →
     host-offer.Learnt κs a r x → (r ≡ packed_offered (offered a).answer) × (x.0.now ≡ (offered a).bytes)
 host-offer-is-offering κs a x r p = p
 
-abbrev handed : Slices 1 → Handing
+abbrev handed : Outputs 1 → Handing
 handed a = library.handing a.0.now
 
-pub hand-out-is-handing : (κs : Lifetimes 1) (a x : Slices 1) (r : Handed) → hand-out.Learnt κs a r x → (r ≡ (handed a).answer) × (x.0.now ≡ (handed a).bytes)
+pub hand-out-is-handing : (κs : Lifetimes 1) (a x : Outputs 1) (r : Handed) → hand-out.Learnt κs a r x → (r ≡ (handed a).answer) × (x.0.now ≡ (handed a).bytes)
 hand-out-is-handing κs a x r p = (p.0, p.1.0)
 
-pub host-hand-out-is-handing : (κs : Lifetimes 1) (a x : Slices 1) (r : ℕ) →
+pub host-hand-out-is-handing : (κs : Lifetimes 1) (a x : Outputs 1) (r : ℕ) →
     host-hand-out.Learnt κs a r x → (r ≡ packed_handed (handed a).answer) × (x.0.now ≡ (handed a).bytes)
 host-hand-out-is-handing κs a x r p = p
+
+-- the three clauses of a promise as one fact
+said : {M : Type 1} (𝓤 : Ura M) (a b c : Type 0) → ent 𝓤 (sep 𝓤 (fact 𝓤 a) (sep 𝓤 (fact 𝓤 b) (fact 𝓤 c))) (fact 𝓤 (a × (b × c)))
+said 𝓤 a b c =
+    let rest = snd∗ 𝓤 (fact 𝓤 a) (sep 𝓤 (fact 𝓤 b) (fact 𝓤 c)) in
+    fact_use 𝓤 a (fst∗ 𝓤 (fact 𝓤 a) (sep 𝓤 (fact 𝓤 b) (fact 𝓤 c))) (λ x.
+    fact_use 𝓤 b (via 𝓤 _ rest (fst∗ 𝓤 (fact 𝓤 b) (fact 𝓤 c))) (λ y.
+    fact_use 𝓤 c (via 𝓤 _ rest (snd∗ 𝓤 (fact 𝓤 b) (fact 𝓤 c))) (λ z. fact_i 𝓤 (a × (b × c)) _ (x, (y, z)))))
 
 -- Learnt is not made of a contract with a slice of structs: what the list's clauses say, in any model, is said of them by themselves
 module _ {M : Type 1} {𝓤 : Ura M} (𝓛 : Logic 𝓤) (mem : Memory → SProp 𝓤) (run : Routine → Fun 𝓤) (κs : Lifetimes 2) (a : Lent × (Rows × Unit {0})) where

@@ -1,1 +1,2 @@
 // The maintainer's demands as theorems over the definitions that the calls promise. No code.
+#![tactic(auto)]
