@@ -30,7 +30,7 @@ use Rattle.stuiverhaag.proofs.stuiverhaag_text.Reads as host-text
 use Rattle.stuiverhaag.proofs.stuiverhaag_canadian.Reads as host-canadian
 use Rattle.stuiverhaag.proofs.stuiverhaag_offer.Reads as host-offer
 use Rattle.demands.specs.Calls.{library}
-use Rattle.demands.proofs.Arguments.{Lifetimes, Lent, Slices}
+use Rattle.demands.proofs.Arguments.{Lifetimes, Lent, Output, Outputs, Behind, Slices}
 use Rattle.unread.specs.Kept.{OnlyUnreadDiffers}
 use Rattle.unread.proofs.Messages.{MessageAs, message-as}
 use Rattle.unread.proofs.Judges.{JudgedAs, judged-as}
@@ -42,7 +42,7 @@ made f p e q = p ∙ ap f e ∙ sym q
 
 -- ---- header and must-carry: the messages are m and n; station and header are b in both calls
 
-module _ (κs κs' : Lifetimes 3) (m n : Lent) (d : OnlyUnreadDiffers m.now n.now) (b : Slices 2) (x x' : Slices 3) where
+module _ (κs κs' : Lifetimes 3) (m n : Lent) (d : OnlyUnreadDiffers m.now n.now) (b : Behind 1 (Outputs 1)) (x x' : Behind 2 (Outputs 1)) where
   abbrev headed : Lent → HeaderOutcome
   headed k = library.heading k.now b.0.now (length b.1.0.now)
 
@@ -79,7 +79,7 @@ module _ (text uri : List ℕ) (o o' : TextOutcome) (same : o ≡ o') where
   packed-same p q = made (λ (z : TextOutcome). packed_text (text_answer_of z)) p same q
 
 -- the messages are m and n; station, text and uri are b in both calls
-module _ (κs κs' : Lifetimes 4) (m n : Lent) (d : OnlyUnreadDiffers m.now n.now) (b : Slices 3) (x x' : Slices 4) where
+module _ (κs κs' : Lifetimes 4) (m n : Lent) (d : OnlyUnreadDiffers m.now n.now) (b : Behind 1 (Outputs 2)) (x x' : Behind 2 (Outputs 2)) where
   abbrev worded : Lent → TextOutcome
   worded k = library.texting k.now b.0.now (length b.1.0.now) (length b.1.1.0.now)
 
@@ -99,7 +99,7 @@ module _ (κs κs' : Lifetimes 4) (m n : Lent) (d : OnlyUnreadDiffers m.now n.no
 
 -- ---- the Canadian mode: the messages are m and n; text and uri are b in both calls
 
-module _ (κs κs' : Lifetimes 3) (m n : Lent) (d : OnlyUnreadDiffers m.now n.now) (b : Slices 2) (x x' : Slices 3) where
+module _ (κs κs' : Lifetimes 3) (m n : Lent) (d : OnlyUnreadDiffers m.now n.now) (b : Outputs 2) (x x' : Behind 1 (Outputs 2)) where
   abbrev in_canada : Lent → TextOutcome
   in_canada k = library.canadian k.now (length b.0.now) (length b.1.0.now)
 
@@ -118,7 +118,7 @@ module _ (κs κs' : Lifetimes 3) (m n : Lent) (d : OnlyUnreadDiffers m.now n.no
 
 -- ---- offer and program: the messages are m and n; the board, or the program's output, is b in both calls
 
-module _ (κs κs' : Lifetimes 2) (m n : Lent) (d : OnlyUnreadDiffers m.now n.now) (b : Lent) (x x' : Slices 2) where
+module _ (κs κs' : Lifetimes 2) (m n : Lent) (d : OnlyUnreadDiffers m.now n.now) (b : Output) (x x' : Output × Slices 1) where
   offering-same : library.offering b.now m.now ≡ library.offering b.now n.now
   offering-same = nothing-unread-matters.offering-same m.now n.now d b.now
 
@@ -132,6 +132,7 @@ module _ (κs κs' : Lifetimes 2) (m n : Lent) (d : OnlyUnreadDiffers m.now n.no
   host-offer-same r r' p q =
       (made (λ (o : MessageOffering). packed_offered o.answer) p.0 offering-same q.0, made (λ (o : MessageOffering). o.bytes) p.1 offering-same q.1)
 
+module _ (κs κs' : Lifetimes 2) (m n : Lent) (d : OnlyUnreadDiffers m.now n.now) (b : Output) (x x' : Behind 1 (Outputs 1)) where
   pub program-same : (r r' : ℕ) →
       program.Learnt κs (m, (b, tt)) r x → program.Learnt κs' (n, (b, tt)) r' x' → (r ≡ r') × (x.1.0.now ≡ x'.1.0.now)
   program-same r r' p q =
