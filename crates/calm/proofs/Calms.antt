@@ -1,7 +1,7 @@
 -- Runs of calm bytes.
 --     calm-in, run-edge      a calm byte lies inside the message, and so does where a run of them ends
 --     carried                what each calm byte carries on, a run of them does
---     put_one                one more is put
+--     put_one_lem            one more is put
 use Prim.Native.Nat.{ℕ, zero, suc, ◌+◌, ◌<◌, ◌≤◌}
 use mathlib.Core.Path.{◌≡◌, refl}
 use mathlib.Core.Bool.{true}

@@ -1,5 +1,5 @@
 -- What stands before and behind the first c of a run.
---     upTo-take, behind-drop, parts-long     both as parts of the run, and how long they are
+--     up_to-take, behind-drop, parts-long     both as parts of the run, and how long they are
 --     parts-pass                             a test that c, what stands before it and what stands behind it pass
 --     first-here, first_on, first-none       where the first c stands, by the element at a place
 use Prim.Native.Nat.{ℕ, suc, ◌+◌, ◌≤◌, ◌<◌}

@@ -1,7 +1,7 @@
 -- A message that answers 0 and is not quiet, and the body that it gives.
 --     alerting         all that the numbers ask holds of it
 --     alert-body       its body is the one of these parts
---     body_ok          which is a header's body
+--     body_ok_lem      which is a header's body
 use Prim.Native.Nat.{ℕ, ◌≤◌, ◌<◌}
 use mathlib.Core.Path.{◌≡◌, refl, ◌∙◌}
 use mathlib.Core.Bool.{Bool, true, false, not, true≢false}

@@ -1,6 +1,6 @@
 -- Strictly ascending lists are finite sets.
 --     sorted_ext                  two with the same members are equal
---     in-insertAll                the members of an insertion
+--     in-insert_all               the members of an insertion
 --     insert-behind               what stands before an insertion
 --     insert-held, insert-new     how an insertion counts
 --     has_in, ascending-sorted    what the tests say

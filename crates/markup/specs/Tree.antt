@@ -1,6 +1,6 @@
 -- The tree of a message: an element holds text, comments and elements, and those elements hold the same, to a depth.
 --     elem_at s d i      the element at i, with d levels left, its own among them
---     contentAt s d i   what an element holds that begins at i, up to its end tag, with d levels left for the elements in it
+--     content_at s d i   what an element holds that begins at i, up to its end tag, with d levels left for the elements in it
 -- Each piece takes at least a byte, so as many turns as the message has bytes, and one for the end tag, are enough.
 use Rattle.std.specs.Prelude.{ℕ, zero, suc, List, length}
 use Rattle.pieces.specs.Pieces.{piece_at}

@@ -2,7 +2,7 @@
 --     notice-laid                                 the notice, from copies in zero-filled fields
 --     group-laid, word_back                       a withdrawal, from a group's parts and from the next word
 --     Putting, put-starts, put_last, put-more     the withdrawals of the references that are left, from record k on
---     put-none, put_one, put_alone, put_both      the records of a message
+--     put-none, put_one_lem, put_alone, put_both  the records of a message
 use Prim.Native.Nat.{ℕ, ◌+◌, ◌-◌, ◌*◌, ◌≤◌, ◌<◌}
 use mathlib.Core.Path.{◌≡◌, refl, sym, ap, ap₂, ◌∙◌, subst}
 use mathlib.Core.Bool.{Bool, true, false, true≢false}

@@ -1,5 +1,5 @@
 -- What is put fits its output.
---     room_of      how long outputs are that are long enough
+--     room_of_lem  how long outputs are that are long enough
 --     uri-fits     the uri of an audio choice
 use Prim.Native.Nat.{ℕ, ◌≤◌}
 use mathlib.Core.Path.{◌≡◌}

@@ -1,6 +1,6 @@
 -- Blocks of a run of text, and white space before them.
 --     still-run, line-run      what the test of a byte tells
---     one_on, spaces-scan      the scan goes over a byte of a run, and over white space
+--     one_on_lem, spaces-scan  the scan goes over a byte of a run, and over white space
 --     runs-scan, runs-edge     and over blocks, and where they end
 use Prim.Native.Nat.{ℕ, zero, suc, ◌+◌, ◌≤◌, ◌<◌}
 use mathlib.Core.Path.{◌≡◌, refl, sym, ◌∙◌}

@@ -1,5 +1,5 @@
 -- What one parameter, of the name w and the value v, adds to the leaves of a table.
---     row_step, rows_long       the leaf of each row; how many leaves there are
+--     row_step_lem, rows_long   the leaf of each row; how many leaves there are
 --     own_row, no-row-of-it     where a parameter is of one row at most, its own leaf alone changes
 --     exact-row, behind-exact   a row of an exact name is told by the name's place among them, one behind these by what stands there
 --     broadcast-row             the last row by its tests

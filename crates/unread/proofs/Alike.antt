@@ -1,6 +1,6 @@
 -- What is read of two messages, s and r, alike but for the places: the same counts, and the same values at the places.
 --     LeafAs, InfoAs, AlertAs                                     a leaf, an info, an alert
---     both-ways                                                   what holds of both choices holds of what equal tests pick
+--     both_ways                                                   what holds of both choices holds of what equal tests pick
 --     found_as, event-as, parameter-as, location-as, audio-as     what is alike stays so by each step
 use Prim.Native.Nat.{ℕ, ◌<◌}
 use mathlib.Core.Path.{◌≡◌, refl, sym, ap, ◌∙◌}

@@ -1,5 +1,5 @@
 -- Whole messages and what the Canadian mode answers for each, with outputs of 7,200 and 1,024 bytes, as a single table under a single statement:
--- `AllCanadian canadianTable`. The comments are the sentences of ticket 1 in document 02, or those of document 01 that stand there too.
+-- `AllCanadian canadian_table`. The comments are the sentences of ticket 1 in document 02, or those of document 01 that stand there too.
 use Rattle.std.specs.Prelude.{ℕ, ◌≡◌, List, [], ◌∷◌, ◌++◌}
 use Prim.Native.String.{String}
 use Rattle.octets.specs.Text.{bytes}
@@ -17,7 +17,7 @@ unasked = no "eventCode" ∷ no "expires" ∷ no "senderName" ∷ no "area" ∷ 
 abbrev pub spoken : List SamplePiece → List ℕ
 spoken cs = alert_with (cs ++ unasked)
 
--- with these parameters, or canadianResources
+-- with these parameters, or canadian_resources
 abbrev pub with_parameters : List ℕ → List ℕ
 with_parameters parameters = spoken (in_place "parameter" parameters ∷ [])
 

@@ -1,4 +1,4 @@
--- Each turn puts one byte more, which is `put_one`.
+-- Each turn puts one byte more, which is `put_one_lem`.
 use Prim.Native.Nat.{◌-◌, ◌≤◌}
 use mathlib.Core.Path.{◌≡◌}
 use lib.Seq.{sets}

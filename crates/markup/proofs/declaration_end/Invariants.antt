@@ -1,4 +1,4 @@
--- The loop moves on by what UTF-8 writes while neither `?>` nor anything else stands there, which is `scanBy`.
+-- The loop moves on by what UTF-8 writes while neither `?>` nor anything else stands there, which is `scan_by`.
 use Prim.Native.Nat.{◌-◌}
 use lib.ListN.{length}
 use Rattle.octets.proofs.Scans.{ScanningBy}
