@@ -1,5 +1,6 @@
 // The board in lent bytes: its rules, an offer of records, the hand-out of the first due header, and the list of the due headers.
 #![tactic(auto)]
+
 ghost use Rattle.std.specs.Prelude.{◌≡◌, false, [], ◌+◌, ◌*◌, ◌≤◌, ◌<◌, leb, length, take};
 ghost use Rattle.std.proofs.lemmas.List.Edits.{sets};
 ghost use Rattle.octets.specs.Bytes.{pick, every};

@@ -1,6 +1,7 @@
 // Bytes of a message that are each one character of a value, by itself or as a space: marks, and white space before a mark. A run of them is found by blocks and
 // copied by a block.
 #![tactic(auto)]
+
 ghost use Rattle.std.specs.Prelude.{◌≡◌, true, ◌+◌, ◌≤◌, length};
 ghost use Rattle.std.proofs.lemmas.List.Edits.{sets};
 ghost use Rattle.calm.specs.WorkingCalm.{is_mark, is_calm, calm_at, Calm, soft, soft_at};

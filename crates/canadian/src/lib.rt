@@ -1,5 +1,6 @@
 // The Canadian mode: the text and the audio choice of a message, written into lent outputs. It gives no header, and no Cancel is quiet.
 #![tactic(auto)]
+
 ghost use Rattle.std.specs.Prelude.{◌≡◌, ◌≤◌, length};
 ghost use Rattle.std.proofs.lemmas.List.Edits.{sets};
 ghost use Rattle.characters.specs.Utf8.{utf8};

@@ -1,6 +1,7 @@
 // Times: a CAP time to seconds since 2000 began in UTC, from these the year, the day of the year, hour and minute; the period of a header;
 // and how a header writes both.
 #![tactic(auto)]
+
 ghost use Rattle.std.specs.Prelude.{◌≡◌, ◌+◌, ◌≤◌, ◌<◌, length};
 ghost use Rattle.std.proofs.lemmas.List.Edits.{sets};
 ghost use Rattle.std.specs.Int.Signed.{mag};

@@ -1,6 +1,7 @@
 // The conversion of a message, in two calls: one for its header and must-carry, one for its text and audio choice, written into lent outputs. Both judge the
 // station and the message.
 #![tactic(auto)]
+
 ghost use Rattle.std.specs.Prelude.{◌≡◌, true, ◌≤◌, length};
 ghost use Rattle.std.proofs.lemmas.List.Edits.{sets};
 ghost use Rattle.characters.specs.Utf8.{utf8};

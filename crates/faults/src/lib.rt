@@ -1,5 +1,6 @@
 // Faults gathered as bits: the field is the count of trailing zeros plus one.
 #![tactic(auto)]
+
 ghost use Rattle.std.specs.Prelude.{◌≡◌, [], ◌∷◌};
 ghost use Rattle.std.specs.Int.Bits.{bit_or};
 ghost use Rattle.octets.specs.Bytes.{pick};

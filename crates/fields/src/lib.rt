@@ -1,5 +1,6 @@
 // Values at a place of a message as document 01 reads them: identities, times, the values of CAP 1.2, references.
 #![tactic(auto)]
+
 ghost use Rattle.std.specs.Prelude.{◌≡◌, [], ◌∷◌, map, ◌+◌, length, drop};
 ghost use Rattle.std.proofs.lemmas.List.Edits.{sets};
 ghost use Rattle.clock.specs.Time.{time_of};

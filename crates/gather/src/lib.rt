@@ -1,5 +1,6 @@
 // One forward pass over a message, which gathers what stands in it of all that document 01 reads. The state is lent, and changed in place.
 #![tactic(auto)]
+
 ghost use Rattle.std.specs.Prelude.{◌≡◌, ◌+◌, ◌≤◌, ◌<◌, length};
 ghost use Rattle.tags.specs.Tags.{close_at};
 ghost use Rattle.markup.specs.Tree.{elem_at, content_at};

@@ -14,7 +14,6 @@ use Rattle.octets.proofs.Parts.{length_part, cut, tail_step}
 use Rattle.octets.proofs.Tests.{Each, each_of, every_of}
 use Rattle.octets.specs.Bytes.{byte_at, part}
 use Rattle.octets.specs.Digits.{value, digits, in_range}
-use Rattle.octets.specs.Order.{first}
 use Rattle.parts.proofs.Periods.{period-high}
 use Rattle.parts.specs.Parts.{is_period}
 

@@ -1,5 +1,6 @@
 // What a header asks of a message, numbers 10 to 14: references, quiet Cancels, and the parts of the header that the message gives.
 #![tactic(auto)]
+
 ghost use Rattle.std.specs.Prelude.{◌≡◌, ◌<◌, ◌-◌};
 ghost use Rattle.octets.specs.Bytes.{every, holds};
 ghost use Rattle.clock.specs.Time.{span};

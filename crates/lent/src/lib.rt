@@ -1,5 +1,6 @@
 // The state of the pass over a message as numbers that are lent and changed in place: what stands where, read and put.
 #![tactic(auto)]
+
 ghost use Rattle.std.specs.Prelude.{◌≡◌, ◌+◌, ◌*◌, ◌≤◌, length, replicate};
 ghost use Rattle.reads.specs.WorkingLeaves.{no_leaf, no_info, nothing_read};
 ghost use Rattle.reads.specs.WorkingSteps.{with_location};

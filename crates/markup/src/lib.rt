@@ -1,5 +1,6 @@
 // What stands before and behind the root of a message.
 #![tactic(auto)]
+
 ghost use Rattle.std.specs.Prelude.{◌≡◌, length};
 ghost use Rattle.octets.specs.Scan.{scan_by};
 ghost use Rattle.characters.specs.Utf8.{coded_width};

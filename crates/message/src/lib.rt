@@ -1,5 +1,6 @@
 // A message read once, forward, and judged up to number 9.
 #![tactic(auto)]
+
 ghost use Rattle.std.specs.Prelude.{◌≡◌, [], ◌∷◌, ◌++◌, not, ◌+◌, ◌≤◌, length};
 ghost use Rattle.octets.specs.Bytes.{every, holds};
 ghost use Rattle.fields.specs.WorkingFields.{statuses, scopes};

@@ -30,7 +30,6 @@ use Rattle.fields.specs.declared.MsgType.{MsgType}
 use Rattle.fields.proofs.Identities.{identity-short}
 use Rattle.fields.proofs.Groups.{group_tests}
 use Rattle.faults.specs.WorkingField.{one_on, lowest}
-use Rattle.markup.specs.Tree.{one}
 use Rattle.reads.specs.declared.Alert.{Alert}
 use Rattle.gather.specs.WorkingRead.{alert_of}
 use Rattle.reads.specs.WorkingLeaves.{only_of, identifier_leaf, sender_leaf, sent_leaf, references_leaf}

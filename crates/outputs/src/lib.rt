@@ -1,5 +1,6 @@
 // Text and audio, which a call gives in either mode: their lent outputs, and what it answers.
 #![tactic(auto)]
+
 ghost use Rattle.std.specs.Prelude.{◌≡◌, ◌≤◌, length};
 ghost use Rattle.std.proofs.lemmas.List.Edits.{sets};
 ghost use Rattle.outputs.specs.Outputs.{text_answer_of};

@@ -1,5 +1,6 @@
 // The parts of a header as a value: which parts a header has, and parts as a caller over numbers and bytes asks for them.
 #![tactic(auto)]
+
 ghost use Rattle.std.specs.Prelude.{◌≡◌, ◌+◌, ◌≤◌, length, take, drop};
 ghost use Rattle.octets.specs.Bytes.{part, every};
 ghost use Rattle.parts.specs.Originator.{originator_of, originator_number, numbered};

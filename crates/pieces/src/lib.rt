@@ -1,5 +1,6 @@
 // The pieces of a message: names, comments, references, runs of text, and what stands next in an element.
 #![tactic(auto)]
+
 ghost use Rattle.std.specs.Prelude.{◌≡◌, true, ◌+◌, ◌≤◌, length};
 ghost use Rattle.octets.specs.Bytes.{pick, byte_at, part, is_space};
 ghost use Rattle.octets.specs.Scan.{past};

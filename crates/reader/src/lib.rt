@@ -1,5 +1,6 @@
 // A reader holds the lent message and the position in it, and goes forward. A function over it takes it apart and calls one that works on slice and position.
 #![tactic(auto)]
+
 ghost use Rattle.std.specs.Prelude.{◌≡◌};
 ghost use Rattle.markup.specs.Document.{before_root};
 ghost use Rattle.reader.specs.WorkingPosition.{reached};

@@ -1,5 +1,6 @@
 // What document 01 reads in a message: the leaves and where they stand, what each element adds, and which elements are read where.
 #![tactic(auto)]
+
 ghost use Rattle.std.specs.Prelude.{◌≡◌, ◌||◌, ◌≤◌, length};
 ghost use Rattle.reads.specs.WorkingLeaves.{no_leaf, marked, found, sound_of, only_of, pair_ok, no_info, nothing_read};
 ghost use Rattle.values.specs.Value.{value_at};

@@ -1,5 +1,6 @@
 // One record of the board: its makers, and the rules that it keeps.
 #![tactic(auto)]
+
 ghost use Rattle.std.specs.Prelude.{◌≡◌, [], ◌∷◌, ◌++◌, ◌≤◌, ◌<◌, length, replicate, eqb, leb};
 ghost use Rattle.octets.specs.Bytes.{every, holds, same};
 ghost use Rattle.clock.specs.Calendar.{year_days};

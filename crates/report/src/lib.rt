@@ -1,5 +1,6 @@
 // The lines that the program prints for a message. Each writer says where what it has put ends.
 #![tactic(auto)]
+
 ghost use Rattle.std.specs.Prelude.{◌≡◌, ◌+◌, ◌≤◌, length};
 ghost use Rattle.std.proofs.lemmas.List.Edits.{sets};
 ghost use Rattle.report.specs.Lines.{decimal, or_none, kind_then_uri, audio_words, number_line, value_line, audio_line, carry_line, alert_lines, lines_of};

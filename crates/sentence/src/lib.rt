@@ -1,5 +1,6 @@
 // The sentence of the alert text, from the parts of a header. Each writer says where what it has put ends.
 #![tactic(auto)]
+
 ghost use Rattle.std.specs.Prelude.{◌≡◌, ◌++◌, ◌+◌, ◌≤◌, length, take, drop};
 ghost use Rattle.std.proofs.lemmas.List.Edits.{sets};
 ghost use Rattle.octets.specs.Digits.{digits};

@@ -1,5 +1,6 @@
 // Records in lent bytes, one after the other: whether one is held, where one goes, records added in their places, and their headers.
 #![tactic(auto)]
+
 ghost use Rattle.std.specs.Prelude.{◌≡◌, ◌++◌, ◌+◌, ◌*◌, ◌≤◌, length, take, drop};
 ghost use Rattle.std.proofs.Math.Seq.{slice};
 ghost use Rattle.octets.specs.Bytes.{same};

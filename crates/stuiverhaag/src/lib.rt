@@ -1,5 +1,6 @@
 // What the bench host calls from C: numbers and lent slices in, one number out. include/stuiverhaag.h declares the same.
 #![tactic(auto)]
+
 ghost use Rattle.std.specs.Prelude.{◌≡◌, ◌≤◌, length};
 ghost use Rattle.std.proofs.lemmas.List.Edits.{sets};
 ghost use Rattle.octets.specs.Bytes.{pick};

@@ -1,5 +1,6 @@
 // Start tags with their attributes, and end tags.
 #![tactic(auto)]
+
 ghost use Rattle.std.specs.Prelude.{◌≡◌, ◌++◌, ◌+◌, ◌*◌, ◌-◌, ◌≤◌, ◌<◌, length, get_or, set};
 ghost use Rattle.octets.specs.Bytes.{same};
 ghost use Rattle.pieces.specs.Walk.{walk_at};

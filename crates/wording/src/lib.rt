@@ -1,6 +1,7 @@
 // The alert text: the sentence, and behind it EASText, or the sender's phrase, description and instruction. A value is read at the place of
 // the message where it begins. Its characters are counted as they are put, and each is put as its bytes in UTF-8.
 #![tactic(auto)]
+
 ghost use Rattle.std.specs.Prelude.{◌≡◌, true, ◌∷◌, ◌+◌, ◌-◌, ◌≤◌, ◌<◌, length, take, drop, ltb};
 ghost use Rattle.std.proofs.lemmas.List.Edits.{sets};
 ghost use Rattle.octets.specs.Bytes.{every};

@@ -1,6 +1,7 @@
 // Tables of words: how long each is, and all of them one behind another. The place of a name in a table, and the word at a place.
 // Lengths stand apart from words so that a table that is written out is unrolled, and costs what a chain of tests does.
 #![tactic(auto)]
+
 ghost use Rattle.std.specs.Prelude.{◌≡◌, [], get_or};
 ghost use Rattle.values.specs.Value.{value_at};
 ghost use Rattle.words.specs.WorkingWords.{words_of, which_of};

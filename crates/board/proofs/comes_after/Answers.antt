@@ -13,22 +13,22 @@ use Rattle.board.proofs.comes_after.Goals as goal
 
 told : (c : goal.In-Less) (o : Order) → c.compare_header.result ≡ o → let a = c.args in choose o true false false ≡ after (recs a.n a.s.now) a.last.now (rec a.i a.s.now)
 told c o e =
-        let a = c.args in
+    let a = c.args in
     marked (recs a.n a.s.now) a.last.now (rec a.i a.s.now) o (sym (mark-at (live (recs a.n a.s.now)) a.s.now a.n a.i a.marks.now c.requires.3 c.requires.2) ∙ c.if-not-marks-i.false) (sym e ∙ c.compare_header.ensures)
 
 told-at-In-Same : (c : goal.In-Same) (o : Order) → c.compare_header.result ≡ o → let a = c.args in choose o true false false ≡ after (recs a.n a.s.now) a.last.now (rec a.i a.s.now)
 told-at-In-Same c o e =
-        let a = c.args in
+    let a = c.args in
     marked (recs a.n a.s.now) a.last.now (rec a.i a.s.now) o (sym (mark-at (live (recs a.n a.s.now)) a.s.now a.n a.i a.marks.now c.requires.3 c.requires.2) ∙ c.if-not-marks-i.false) (sym e ∙ c.compare_header.ensures)
 
 told-at-In-More : (c : goal.In-More) (o : Order) → c.compare_header.result ≡ o → let a = c.args in choose o true false false ≡ after (recs a.n a.s.now) a.last.now (rec a.i a.s.now)
 told-at-In-More c o e =
-        let a = c.args in
+    let a = c.args in
     marked (recs a.n a.s.now) a.last.now (rec a.i a.s.now) o (sym (mark-at (live (recs a.n a.s.now)) a.s.now a.n a.i a.marks.now c.requires.3 c.requires.2) ∙ c.if-not-marks-i.false) (sym e ∙ c.compare_header.ensures)
 
 pub returns-then-not-marks-i : goal.returns-then-not-marks-i
 returns-then-not-marks-i c =
-        let a = c.args in
+    let a = c.args in
     unmarked (recs a.n a.s.now) a.last.now (rec a.i a.s.now) (sym (mark-at (live (recs a.n a.s.now)) a.s.now a.n a.i a.marks.now c.requires.3 c.requires.2) ∙ c.if-not-marks-i.true)
 
 pub returns-in-Less : goal.returns-in-Less

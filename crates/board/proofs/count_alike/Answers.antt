@@ -1,5 +1,4 @@
 use Rattle.records.specs.Record.{carried}
-use Prim.Native.Nat.{◌-◌}
 use native.Mathlib.Omega.{arith}
 use Rattle.ledger.specs.WorkingBoard.{live}
 use Rattle.slots.specs.WorkingSlots.{rec}
@@ -12,7 +11,7 @@ loop-i-init c = (omega arith, omega arith, omega arith)
 
 pub alike-k-requires : goal.alike-k-requires
 alike-k-requires c =
-        (c.requires.0, c.requires.1, c.requires.2, c.loop-i-test.true, c.requires.3)
+    (c.requires.0, c.requires.1, c.requires.2, c.loop-i-test.true, c.requires.3)
 
 pub overflow_add-k : goal.overflow_add-k
 overflow_add-k c = omega (arith, c.alike-k.ensures.upper_bound)

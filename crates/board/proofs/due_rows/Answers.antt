@@ -1,4 +1,4 @@
-use Prim.Native.Nat.{ℕ, ◌-◌, ◌≤◌, ◌<◌}
+use Prim.Native.Nat.{ℕ, ◌≤◌, ◌<◌}
 use mathlib.Core.List.{List}
 use mathlib.Core.Path.{refl}
 use native.Mathlib.Omega.{arith}
@@ -17,26 +17,26 @@ Room n s k j = (k < length (due (recs n s))) × (length (due (recs n s)) ≤ n) 
 room : (c : goal.After-count_alike-count) → let a = c.args in Room a.n a.s.now c.loop-j.k c.loop-j.j
 room c =
     let l = c.loop-j in
-        let a = c.args in
+    let a = c.args in
     (row_within a.n a.s.now _ l.rows l.k l.j l.invariant.2 c.loop-j-test.true, due-most a.n a.s.now, c.loop-j-test.true, c.requires.1)
 
 room-at-After-next_after-j : (c : goal.After-next_after-j) → let a = c.args in Room a.n a.s.now c.loop-j.k c.loop-j.j
 room-at-After-next_after-j c =
     let l = c.loop-j in
-        let a = c.args in
+    let a = c.args in
     (row_within a.n a.s.now _ l.rows l.k l.j l.invariant.2 c.loop-j-test.true, due-most a.n a.s.now, c.loop-j-test.true, c.requires.1)
 
 pub first_after-j-requires : goal.first_after-j-requires
 first_after-j-requires c =
-        (c.requires.0, c.requires.1, c.live_marks-marks.ensures)
+    (c.requires.0, c.requires.1, c.live_marks-marks.ensures)
 
 pub loop-j-init : goal.loop-j-init
 loop-j-init c =
-        (c.live_marks-marks.ensures, length-replicate 170 blank, stand-start c.args.n c.args.s.now _ _ c.requires.0 c.first_after-j.ensures)
+    (c.live_marks-marks.ensures, length-replicate 170 blank, stand-start c.args.n c.args.s.now _ _ c.requires.0 c.first_after-j.ensures)
 
 pub count_alike-count-requires : goal.count_alike-count-requires
 count_alike-count-requires c =
-        (c.requires.0, c.requires.1, c.loop-j-test.true, c.loop-j.invariant.0)
+    (c.requires.0, c.requires.1, c.loop-j-test.true, c.loop-j.invariant.0)
 
 pub offset_bounds-rows-k : goal.offset_bounds-rows-k
 offset_bounds-rows-k c = omega (arith, room c)
@@ -51,7 +51,7 @@ overflow_add-k c = omega (arith, room c)
 
 pub next_after-j-requires : goal.next_after-j-requires
 next_after-j-requires c =
-        (c.requires.0, c.requires.1, c.loop-j-test.true, c.loop-j.invariant.0)
+    (c.requires.0, c.requires.1, c.loop-j-test.true, c.loop-j.invariant.0)
 
 pub loop-j-smaller : goal.loop-j-smaller
 loop-j-smaller c = omega (arith, room-at-After-next_after-j c)
@@ -60,10 +60,10 @@ pub loop-j-preserved : goal.loop-j-preserved
 loop-j-preserved c =
     let l = c.loop-j in
     let a = c.args in
-        (l.invariant.0, l.invariant.1, stand-next a.n a.s.now _ l.rows l.k l.j l.invariant.2 c.count_alike-count.result _ c.loop-j-test.true c.count_alike-count.ensures.value c.next_after-j.ensures)
+    (l.invariant.0, l.invariant.1, stand-next a.n a.s.now _ l.rows l.k l.j l.invariant.2 c.count_alike-count.result _ c.loop-j-test.true c.count_alike-count.ensures.value c.next_after-j.ensures)
 
 pub returns : goal.returns
 returns c =
     let l = c.loop-j in
-        let w = stand-end c.args.n c.args.s.now _ l.rows l.k l.j l.invariant.2 c.loop-j-test.false l.invariant.1 c.requires.1 in
+    let w = stand-end c.args.n c.args.s.now _ l.rows l.k l.j l.invariant.2 c.loop-j-test.false l.invariant.1 c.requires.1 in
     record { number_value = refl; count_value = w.0; rows_value = w.1; count_bound = omega (arith, l.invariant.2.fits, due-most c.args.n c.args.s.now, c.requires) }

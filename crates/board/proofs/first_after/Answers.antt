@@ -1,4 +1,4 @@
-use Prim.Native.Nat.{ℕ, ◌-◌}
+use Prim.Native.Nat.{ℕ}
 use mathlib.Core.Path.{◌≡◌, ap, ◌∙◌}
 use native.Mathlib.Omega.{arith}
 use Rattle.slots.specs.Slots.{recs}
@@ -13,7 +13,7 @@ loop-i-init c =
 
 pub better-best-requires : goal.better-best-requires
 better-best-requires c =
-        record { n_in_bounds = (c.requires.0, c.requires.1, c.loop-i-test.true, c.requires.2); best_value = c.loop-i.invariant.1 }
+    record { n_in_bounds = (c.requires.0, c.requires.1, c.loop-i-test.true, c.requires.2); best_value = c.loop-i.invariant.1 }
 
 pub loop-i-preserved : goal.loop-i-preserved
 loop-i-preserved c = (omega arith, c.better-best.ensures)

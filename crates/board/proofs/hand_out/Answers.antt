@@ -9,7 +9,6 @@ use Rattle.board.specs.Rules.{board_of}
 use Rattle.board.specs.WorkingRules.{board_ok}
 use Rattle.board.specs.Calls.{Handing}
 use Rattle.board.proofs.Answers.{hand-bad, filled_within, filled-most, hand-none, hand-within, hand-full, hand-given}
-use borrow.Author.Rules.{rules}
 use Rattle.board.proofs.hand_out.Goals as goal
 
 -- the filled records of a board that keeps the rules are counted
@@ -97,31 +96,31 @@ returns-then-not-keeps_rules c =
 
 pub first_due-j-requires : goal.first_due-j-requires
 first_due-j-requires c =
-        (filled_within (bytes c) (count c) (counted c) (keeps c), filled-most (bytes c) (count c) (counted c) (keeps c))
+    (filled_within (bytes c) (count c) (counted c) (keeps c), filled-most (bytes c) (count c) (counted c) (keeps c))
 
 pub returns-then-j-n : goal.returns-then-j-n
 returns-then-j-n c =
-            let o = hand-none (bytes-at-Then-j-n c) (count-at-Then-j-n c) (counted-at-Then-j-n c) (keeps-at-Then-j-n c) c.first_due-j.result c.first_due-j.ensures c.if-j-n.true in
+    let o = hand-none (bytes-at-Then-j-n c) (count-at-Then-j-n c) (counted-at-Then-j-n c) (keeps-at-Then-j-n c) c.first_due-j.result c.first_due-j.ensures c.if-j-n.true in
     record { value = sym (ap (λ (x : Handing). x.answer) o); s_after = sym (ap (λ (x : Handing). x.bytes) o); number_bound = (omega arith, omega arith) }
 
 pub overflow_add-n : goal.overflow_add-n
 overflow_add-n c =
-        omega (arith, filled-most (bytes-at-Else-j-n c) (count-at-Else-j-n c) (counted-at-Else-j-n c) (keeps-at-Else-j-n c))
+    omega (arith, filled-most (bytes-at-Else-j-n c) (count-at-Else-j-n c) (counted-at-Else-j-n c) (keeps-at-Else-j-n c))
 
 pub overflow_mul-n : goal.overflow_mul-n
 overflow_mul-n c =
-        omega (arith, filled-most (bytes-at-Else-j-n c) (count-at-Else-j-n c) (counted-at-Else-j-n c) (keeps-at-Else-j-n c))
+    omega (arith, filled-most (bytes-at-Else-j-n c) (count-at-Else-j-n c) (counted-at-Else-j-n c) (keeps-at-Else-j-n c))
 
 pub returns-then-s-n : goal.returns-then-s-n
 returns-then-s-n c =
-            let o = hand-full (bytes-at-Then-s-n c) (count-at-Then-s-n c) (counted-at-Then-s-n c) (keeps-at-Then-s-n c) c.first_due-j.result c.first_due-j.ensures c.if-j-n.false c.if-s-n.true in
+    let o = hand-full (bytes-at-Then-s-n c) (count-at-Then-s-n c) (counted-at-Then-s-n c) (keeps-at-Then-s-n c) c.first_due-j.result c.first_due-j.ensures c.if-j-n.false c.if-s-n.true in
     record { value = sym (ap (λ (x : Handing). x.answer) o); s_after = sym (ap (λ (x : Handing). x.bytes) o); number_bound = (omega arith, omega arith) }
 
 pub air-requires : goal.air-requires
 air-requires c =
-            (hand-within (bytes-at-After-air-arg-1 c) (count-at-After-air-arg-1 c) (counted-at-After-air-arg-1 c) (keeps-at-After-air-arg-1 c) c.first_due-j.result c.first_due-j.ensures c.if-j-n.false, c.if-s-n.false)
+    (hand-within (bytes-at-After-air-arg-1 c) (count-at-After-air-arg-1 c) (counted-at-After-air-arg-1 c) (keeps-at-After-air-arg-1 c) c.first_due-j.result c.first_due-j.ensures c.if-j-n.false, c.if-s-n.false)
 
 pub returns : goal.returns
 returns c =
-            let o = hand-given (bytes-at-After-slice_known-2-1 c) (count-at-After-slice_known-2-1 c) (counted-at-After-slice_known-2-1 c) (keeps-at-After-slice_known-2-1 c) c.first_due-j.result c.first_due-j.ensures _ c.if-j-n.false c.if-s-n.false c.air.ensures in
+    let o = hand-given (bytes-at-After-slice_known-2-1 c) (count-at-After-slice_known-2-1 c) (counted-at-After-slice_known-2-1 c) (keeps-at-After-slice_known-2-1 c) c.first_due-j.result c.first_due-j.ensures _ c.if-j-n.false c.if-s-n.false c.air.ensures in
     record { value = sym (ap (λ (x : Handing). x.answer) o); s_after = sym (ap (λ (x : Handing). x.bytes) o); number_bound = (omega arith, omega (arith, hand-within (bytes-at-After-slice_known-2-1 c) (count-at-After-slice_known-2-1 c) (counted-at-After-slice_known-2-1 c) (keeps-at-After-slice_known-2-1 c) c.first_due-j.result c.first_due-j.ensures c.if-j-n.false, filled-most (bytes-at-After-slice_known-2-1 c) (count-at-After-slice_known-2-1 c) (counted-at-After-slice_known-2-1 c) (keeps-at-After-slice_known-2-1 c))) }

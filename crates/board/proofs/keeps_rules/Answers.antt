@@ -121,7 +121,7 @@ slice_bounds-are_zeros-start c = omega (arith, within-at-Else-not-are_records c)
 
 pub returns : goal.returns
 returns c =
-        board-rest (bytes-at-After-are_zeros c) (count-at-After-are_zeros c) c.are_zeros.result (counted-at-After-are_zeros c) c.if-len-lt-SIZE.false c.if-len-gt-BYTES.false c.if-len-ne0.false
+    board-rest (bytes-at-After-are_zeros c) (count-at-After-are_zeros c) c.are_zeros.result (counted-at-After-are_zeros c) c.if-len-lt-SIZE.false c.if-len-gt-BYTES.false c.if-len-ne0.false
     (sym c.if-not-is_ascending.false ∙ c.is_ascending.ensures)
     (sym c.if-not-are_records.false ∙ c.are_records.ensures)
     (c.are_zeros.ensures ∙ ap zeros (tail_all (count-at-After-are_zeros c * 384) (bytes-at-After-are_zeros c)))

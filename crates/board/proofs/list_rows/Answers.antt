@@ -1,5 +1,5 @@
 -- As many rows are lent as can be due, and of a longer run none is stored.
-use Rattle.std.proofs.Common.{◌≡◌, ◌∙◌, ap, ℕ, List, ◌++◌, length, take, drop}
+use Rattle.std.proofs.Common.{◌≡◌, ◌∙◌, ap, List, ◌++◌, length, take, drop}
 use Rattle.std.proofs.lemmas.List.Edits.{sets}
 use Rattle.ledger.specs.declared.Row.{Row}
 use Rattle.board.specs.WorkingCalls.{list_of, blanks}

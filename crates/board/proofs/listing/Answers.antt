@@ -12,7 +12,6 @@ use Rattle.board.specs.Rules.{board_of}
 use Rattle.board.specs.WorkingRules.{board_ok}
 use Rattle.board.specs.WorkingCalls.{list_of}
 use Rattle.board.proofs.Answers.{filled_within, filled-most, list-bad, list-short, list-given, finds-none, finds-rows}
-use borrow.Author.Rules.{rules}
 use Rattle.board.proofs.listing.Goals as goal
 
 -- the filled records of a board that keeps the rules are counted
@@ -57,7 +56,7 @@ keeps-at-Else-room-due c = sym c.keeps_rules.ensures ∙ c.if-not-keeps_rules.fa
 pub returns-then-not-keeps_rules : goal.returns-then-not-keeps_rules
 returns-then-not-keeps_rules c =
     let a = c.args in
-        let o = finds-none (list_of a.s.now a.room) 1 c.refused.result (list-bad a.s.now a.room (sym c.keeps_rules.ensures ∙ c.if-not-keeps_rules.true)) c.refused.ensures in
+    let o = finds-none (list_of a.s.now a.room) 1 c.refused.result (list-bad a.s.now a.room (sym c.keeps_rules.ensures ∙ c.if-not-keeps_rules.true)) c.refused.ensures in
     record { answer_value = o.0; rows_value = o.1; number_bound = (omega (arith, ap (λ (x : Listed). x.number) c.refused.ensures), omega (arith, ap (λ (x : Listed). x.count) c.refused.ensures)) }
 
 pub due_rows-due-requires : goal.due_rows-due-requires
@@ -66,11 +65,11 @@ due_rows-due-requires c = (filled_within (bytes c) (count c) (counted c) (keeps 
 pub returns-then-room-due : goal.returns-then-room-due
 returns-then-room-due c =
     let a = c.args in
-                let o = finds-none (list_of a.s.now a.room) 2 c.refused-then-room-due.result (list-short a.s.now a.room (count-at-After-refused-then-room-due c) c.due_rows-due.result.answer.count (counted-at-After-refused-then-room-due c) (keeps-at-After-refused-then-room-due c) c.due_rows-due.ensures.count_value c.if-room-due.true) c.refused-then-room-due.ensures in
+    let o = finds-none (list_of a.s.now a.room) 2 c.refused-then-room-due.result (list-short a.s.now a.room (count-at-After-refused-then-room-due c) c.due_rows-due.result.answer.count (counted-at-After-refused-then-room-due c) (keeps-at-After-refused-then-room-due c) c.due_rows-due.ensures.count_value c.if-room-due.true) c.refused-then-room-due.ensures in
     record { answer_value = o.0; rows_value = o.1; number_bound = (omega (arith, ap (λ (x : Listed). x.number) c.refused-then-room-due.ensures), omega (arith, ap (λ (x : Listed). x.count) c.refused-then-room-due.ensures)) }
 
 pub returns : goal.returns
 returns c =
     let a = c.args in
-            let o = finds-rows (list_of a.s.now a.room) (rows_of (recs (count-at-Else-room-due c) a.s.now)) c.due_rows-due.result (list-given a.s.now a.room (count-at-Else-room-due c) c.due_rows-due.result.answer.count (counted-at-Else-room-due c) (keeps-at-Else-room-due c) c.due_rows-due.ensures.count_value c.if-room-due.false) c.due_rows-due.ensures.number_value c.due_rows-due.ensures.rows_value in
+    let o = finds-rows (list_of a.s.now a.room) (rows_of (recs (count-at-Else-room-due c) a.s.now)) c.due_rows-due.result (list-given a.s.now a.room (count-at-Else-room-due c) c.due_rows-due.result.answer.count (counted-at-Else-room-due c) (keeps-at-Else-room-due c) c.due_rows-due.ensures.count_value c.if-room-due.false) c.due_rows-due.ensures.number_value c.due_rows-due.ensures.rows_value in
     record { answer_value = o.0; rows_value = o.1; number_bound = (omega (arith, c.due_rows-due.ensures.number_value), c.due_rows-due.ensures.count_bound) }

@@ -11,7 +11,6 @@ use Rattle.board.specs.WorkingRules.{board_ok}
 use Rattle.board.specs.WorkingCalls.{Offering}
 use Rattle.board.proofs.Boards.{board-within, kept-rules}
 use Rattle.board.proofs.Answers.{offer-bad, filled-sorted, offer-full, offer-taken}
-use borrow.Author.Rules.{rules}
 use Rattle.board.proofs.offer_records.Goals as goal
 
 abbrev count : goal.Else-not-keeps_rules → ℕ
@@ -95,10 +94,10 @@ overflow_mul-n c = omega (arith, within-at-After-tally-k c, c.tally-k.ensures.up
 
 pub returns-then-s-n : goal.returns-then-s-n
 returns-then-s-n c =
-        let o = offer-full (bytes-at-Then-s-n c) (batch-at-Then-s-n c) (count-at-Then-s-n c) (counted-at-Then-s-n c) (keeps-at-Then-s-n c) c.tally-k.result c.tally-k.ensures.n_value c.if-s-n.true in
+    let o = offer-full (bytes-at-Then-s-n c) (batch-at-Then-s-n c) (count-at-Then-s-n c) (counted-at-Then-s-n c) (keeps-at-Then-s-n c) c.tally-k.result c.tally-k.ensures.n_value c.if-s-n.true in
     record { value = sym (ap (λ (x : Offering). x.answer) o); s_after = sym (ap (λ (x : Offering). x.bytes) o); number_bound = (omega arith, omega arith) }
 
 pub returns : goal.returns
 returns c =
-        let o = offer-taken (bytes-at-After-slice_known-2-1 c) (batch-at-After-slice_known-2-1 c) (count-at-After-slice_known-2-1 c) (counted-at-After-slice_known-2-1 c) (keeps-at-After-slice_known-2-1 c) c.tally-k.result _ c.add_all.result c.tally-k.ensures.n_value c.if-s-n.false c.add_all.ensures.value c.add_all.ensures.s_after in
+    let o = offer-taken (bytes-at-After-slice_known-2-1 c) (batch-at-After-slice_known-2-1 c) (count-at-After-slice_known-2-1 c) (counted-at-After-slice_known-2-1 c) (keeps-at-After-slice_known-2-1 c) c.tally-k.result _ c.add_all.result c.tally-k.ensures.n_value c.if-s-n.false c.add_all.ensures.value c.add_all.ensures.s_after in
     record { value = sym (ap (λ (x : Offering). x.answer) o); s_after = sym (ap (λ (x : Offering). x.bytes) o); number_bound = (omega arith, omega (arith, (kept-rules (bytes-at-After-slice_known-2-1 c) (keeps-at-After-slice_known-2-1 c)).high, c.if-s-n.false)) }

@@ -1,4 +1,3 @@
-use Prim.Native.Nat.{◌-◌}
 use native.Mathlib.Omega.{arith}
 use Rattle.octets.proofs.Stretches.{each_none, each-join}
 use Rattle.calm.specs.WorkingCalm.{calm_at}

@@ -1,4 +1,3 @@
-use Prim.Native.Nat.{◌-◌}
 use native.Mathlib.Omega.{arith}
 use borrow.Author.Tests.{eqb-true}
 use Rattle.octets.proofs.Stretches.{each_none, each_more}
@@ -37,7 +36,7 @@ loop-k-preserved c =
     let a = c.args in
     let l = c.loop-k in
     let t = c.loop-k-test.true in
-        (omega (arith, c.stirs-n.ensures.upper_bound, l.invariant.0), omega (arith, t), λ e. each_more (calm_at a.s.now) a.at l.k (l.invariant.2 (omega (arith, e))) (c.stirs-n.ensures.c_value (omega (arith, e))))
+    (omega (arith, c.stirs-n.ensures.upper_bound, l.invariant.0), omega (arith, t), λ e. each_more (calm_at a.s.now) a.at l.k (l.invariant.2 (omega (arith, e))) (c.stirs-n.ensures.c_value (omega (arith, e))))
 
 pub returns : goal.returns
 returns c = λ e j h. c.loop-k.invariant.2 (eqb-true _ _ e) j (omega (arith, h, c.loop-k-test.false))

@@ -23,15 +23,15 @@ returns-then-not-is_roomy c =
 
 pub returns-then-m-ne0 : goal.returns-then-m-ne0
 returns-then-m-ne0 c =
-        let a = c.args in let both = untouched _ _ _ _ _ _ (refused a.message.now _ _ (roomy c) _ c.read-m.ensures c.if-m-ne0.true) c.answer_alone-then-m-ne0.ensures in record { value = both.0; text_after = both.1.0; uri_after = both.1.1 }
+    let a = c.args in let both = untouched _ _ _ _ _ _ (refused a.message.now _ _ (roomy c) _ c.read-m.ensures c.if-m-ne0.true) c.answer_alone-then-m-ne0.ensures in record { value = both.0; text_after = both.1.0; uri_after = both.1.1 }
 
 pub write-requires : goal.write-requires
 write-requires c =
-        let a = c.args in
+    let a = c.args in
     let room = room_of_lem _ _ (roomy-at-After-write-arg-2-1 c) in
     record { in_bounds = room.0; in_bounds_2 = room.1; uri_fits = fits a.message.now _ _ (roomy-at-After-write-arg-2-1 c) _ c.read-m.ensures }
 
 pub returns : goal.returns
 returns c =
-            let a = c.args in
+    let a = c.args in
     rw (told a.message.now _ _ (roomy-at-After-slice_known-4-1 c) _ c.read-m.ensures c.if-m-ne0.false) (record { value = c.write.ensures.value; text_after = c.write.ensures.text_after; uri_after = c.write.ensures.uri_after })

@@ -51,7 +51,7 @@ returns-then-n-eq0 c = let both = put-none (broadcast-at-Then-n-eq0 c) (descript
 
 pub put_plain-r-requires : goal.put_plain-r-requires
 put_plain-r-requires c =
-                let room = room-start c.put_first-whole.new.out (omega (arith, c.requires, c.put_first-whole.auto.out)) in
+    let room = room-start c.put_first-whole.new.out (omega (arith, c.requires, c.put_first-whole.auto.out)) in
     room-past room (pen-first _ start_pen (plain (description-at-After-put_plain-arg-1 c)) (c.put_first-n.ensures.value, c.put_first-n.ensures.out_after)) 0 (omega (arith, plain-short (description-at-After-put_plain-arg-1 c)))
 
 pub returns : goal.returns

@@ -16,7 +16,7 @@ returns-then-s-at-lt128 c = coded-low c.args.s.now c.args.at (omega arith) c.if-
 
 pub returns-then-n-ne0 : goal.returns-then-n-ne0
 returns-then-n-ne0 c =
-        c.width_at-n.ensures ∙ coded-legal c.args.s.now c.args.at (λ e. c.if-n-ne0.true (c.width_at-n.ensures ∙ e))
+    c.width_at-n.ensures ∙ coded-legal c.args.s.now c.args.at (λ e. c.if-n-ne0.true (c.width_at-n.ensures ∙ e))
 
 pub returns-then-stands_at : goal.returns-then-stands_at
 unfolding encoded

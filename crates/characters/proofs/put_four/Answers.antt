@@ -8,7 +8,7 @@ use Rattle.characters.proofs.put_four.Goals as goal
 
 pub returns : goal.returns
 returns c =
-                    let d = c.args.out.now in
+    let d = c.args.out.now in
     let at = c.args.at in
     let two = behind d at (_ ∷ []) (_ ∷ []) c.put_byte.ensures refl c.put_tail.ensures in
     let three = behind d at (_ ∷ _ ∷ []) (_ ∷ []) two refl c.put_tail-2.ensures in

@@ -39,7 +39,7 @@ put_byte-requires c = omega (arith, ap length (one c), c.requires.c_in_bounds)
 
 pub returns-then-c-lt128 : goal.returns-then-c-lt128
 returns-then-c-lt128 c =
-        let a = c.args in
+    let a = c.args in
     record { value = omega (arith, ap length (one-at-After-slice_known-then-c-lt128-1 c)); out_after = c.put_byte.ensures ∙ ap (sets a.out.now a.at) (sym (one-at-After-slice_known-then-c-lt128-1 c)) }
 
 pub put_two-requires : goal.put_two-requires

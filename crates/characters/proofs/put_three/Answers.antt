@@ -8,7 +8,7 @@ use Rattle.characters.proofs.put_three.Goals as goal
 
 pub returns : goal.returns
 returns c =
-            let d = c.args.out.now in
+    let d = c.args.out.now in
     let at = c.args.at in
     let two = behind d at (_ ∷ []) (_ ∷ []) c.put_byte.ensures refl c.put_tail.ensures in
     behind d at (_ ∷ _ ∷ []) (_ ∷ []) two refl c.put_tail-2.ensures ∙ ap (sets d at) (sym (encoded-three c.args.c c.requires.le_c.0 c.requires.le_c.1))

@@ -8,6 +8,6 @@ use Rattle.characters.proofs.put_two.Goals as goal
 
 pub returns : goal.returns
 returns c =
-            let d = c.args.out.now in
+    let d = c.args.out.now in
     let at = c.args.at in
     behind d at (_ ∷ []) (_ ∷ []) c.put_byte.ensures refl c.put_tail.ensures ∙ ap (sets d at) (sym (encoded-two c.args.c c.requires.le_c.0 c.requires.le_c.1))

@@ -11,14 +11,14 @@ returns-then-a-lt192 c = none_read _ _ c.byte-a.ensures c.if-a-lt128.false c.if-
 
 pub returns-then-a-lt224 : goal.returns-then-a-lt224
 returns-then-a-lt224 c =
-        c.legal_from-then-a-lt224.ensures ∙ two-read _ _ c.byte-a.ensures c.join-v.ensures.value c.if-a-lt192.false c.if-a-lt224.true
+    c.legal_from-then-a-lt224.ensures ∙ two-read _ _ c.byte-a.ensures c.join-v.ensures.value c.if-a-lt192.false c.if-a-lt224.true
 
 pub returns-then-a-lt240 : goal.returns-then-a-lt240
 returns-then-a-lt240 c =
-        c.legal_from-then-a-lt240.ensures
+    c.legal_from-then-a-lt240.ensures
     ∙ three-read _ _ c.byte-a.ensures c.join.ensures.value c.join-v-then-a-lt240.ensures.value c.if-a-lt224.false c.if-a-lt240.true
 
 pub returns : goal.returns
 returns c =
-        c.legal_from-2.ensures
+    c.legal_from-2.ensures
     ∙ four-read _ _ c.byte-a.ensures c.join-2.ensures.value c.join-3.ensures.value c.join-v-2.ensures.value c.if-a-lt240.false

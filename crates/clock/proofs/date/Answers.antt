@@ -22,7 +22,7 @@ read-month-at-In_default-ranged-2 c = sym c.ranged-2.ensures ∙ c.in-Value-rang
 
 read : (c : goal.In_default-ranged-2) → Month c.args.t.now c.in-Value.y c.in-Value-ranged.m c.is_leap-leap.result c.month_days-most.result
 read c =
-        record {
+    record {
       year-read = read-year c;
       dash = c.if-t-ne45.false;
       month-read = read-month-at-In_default-ranged-2 c;
@@ -40,7 +40,7 @@ read-month-at-In-Value-ranged-2 c = sym c.ranged-2.ensures ∙ c.in-Value-ranged
 
 read-at-In-Value-ranged-2 : (c : goal.In-Value-ranged-2) → Month c.args.t.now c.in-Value.y c.in-Value-ranged.m c.is_leap-leap.result c.month_days-most.result
 read-at-In-Value-ranged-2 c =
-        record {
+    record {
       year-read = read-year-at-In-Value-ranged-2 c;
       dash = c.if-t-ne45.false;
       month-read = read-month-at-In-Value-ranged-2 c;
@@ -58,7 +58,7 @@ read-month-at-After-days_to c = sym c.ranged-2.ensures ∙ c.in-Value-ranged.is
 
 read-at-After-days_to : (c : goal.After-days_to) → Month c.args.t.now c.in-Value.y c.in-Value-ranged.m c.is_leap-leap.result c.month_days-most.result
 read-at-After-days_to c =
-        record {
+    record {
       year-read = read-year-at-After-days_to c;
       dash = c.if-t-ne45.false;
       month-read = read-month-at-After-days_to c;
@@ -76,7 +76,7 @@ read-month-at-After-days_before c = sym c.ranged-2.ensures ∙ c.in-Value-ranged
 
 read-at-After-days_before : (c : goal.After-days_before) → Month c.args.t.now c.in-Value.y c.in-Value-ranged.m c.is_leap-leap.result c.month_days-most.result
 read-at-After-days_before c =
-        record {
+    record {
       year-read = read-year-at-After-days_before c;
       dash = c.if-t-ne45.false;
       month-read = read-month-at-After-days_before c;

@@ -9,7 +9,7 @@ use Rattle.clock.proofs.instant.Goals as goal
 -- the length and the three pieces
 read : (c : goal.After-with_sign-offset) → Parts c.args.t.now c.in-Value.days c.in-Value-second.seconds c.in-Value-zone.behind
 read c =
-                record {
+    record {
       long = c.if-t-ne25.false;
       date-read = sym c.date.ensures ∙ c.in-Value.is;
       second-read = sym c.second.ensures ∙ c.in-Value-second.is;
@@ -19,7 +19,7 @@ read c =
 -- the length and the three pieces
 read-at-After-since_2000 : (c : goal.After-since_2000) → Parts c.args.t.now c.in-Value.days c.in-Value-second.seconds c.in-Value-zone.behind
 read-at-After-since_2000 c =
-                record {
+    record {
       long = c.if-t-ne25.false;
       date-read = sym c.date.ensures ∙ c.in-Value.is;
       second-read = sym c.second.ensures ∙ c.in-Value-second.is;
@@ -29,7 +29,7 @@ read-at-After-since_2000 c =
 -- the length and the three pieces
 read-at-After-in_span : (c : goal.After-in_span) → Parts c.args.t.now c.in-Value.days c.in-Value-second.seconds c.in-Value-zone.behind
 read-at-After-in_span c =
-                record {
+    record {
       long = c.if-t-ne25.false;
       date-read = sym c.date.ensures ∙ c.in-Value.is;
       second-read = sym c.second.ensures ∙ c.in-Value-second.is;
@@ -57,4 +57,4 @@ to_utc-requires c =
 
 pub returns : goal.returns
 returns c =
-        time-made (read-at-After-in_span c) _ _ _ _ c.since_2000.ensures c.with_sign-offset.ensures c.to_utc.ensures c.in_span.ensures
+    time-made (read-at-After-in_span c) _ _ _ _ c.since_2000.ensures c.with_sign-offset.ensures c.to_utc.ensures c.in_span.ensures

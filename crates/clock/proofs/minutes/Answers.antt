@@ -9,7 +9,7 @@ use Rattle.clock.proofs.minutes.Goals as goal
 -- what has been read
 read : (c : goal.In-Value-ranged) → let a = c.args in Hours a.t.now a.at a.most c.in-Value.h c.in-Value-ranged.m
 read c =
-            record {
+    record {
       hour-read = sym c.ranged.ensures ∙ c.in-Value.is;
       colon = c.if-t-at-ne58.false;
       minute-read = sym c.ranged-2.ensures ∙ c.in-Value-ranged.is;

@@ -10,7 +10,7 @@ use Rattle.clock.proofs.month_days.Goals as goal
 next : (c : goal.After-days_before-2) → let a = c.args in c.days_before.result ≡ c.days_before-2.result + month_days a.leap a.month
 next c =
     let a = c.args in
-        rw (c.days_before.ensures, c.days_before-2.ensures) (month-is a.leap a.month c.requires.le_month c.requires.month_bound)
+    rw (c.days_before.ensures, c.days_before-2.ensures) (month-is a.leap a.month c.requires.le_month c.requires.month_bound)
 
 pub overflow_sub-result : goal.overflow_sub-result
 overflow_sub-result c = omega (arith, next c)

@@ -14,5 +14,5 @@ returns c =
     let a = c.args in
     let hour = digits 2 a.hour in
     let minute = digits 2 a.minute in
-        let then = behind _ (a.at + 3) hour minute c.put_number-2.ensures (omega (arith, length_digits 2 a.hour)) c.put_number-3.ensures in
+    let then = behind _ (a.at + 3) hour minute c.put_number-2.ensures (omega (arith, length_digits 2 a.hour)) c.put_number-3.ensures in
     behind a.out.now a.at (digits 3 a.day) (hour ++ minute) c.put_number.ensures (omega (arith, length_digits 3 a.day)) then

@@ -9,7 +9,7 @@ use Rattle.clock.proofs.second.Goals as goal
 -- what has been read
 read : (c : goal.In-Value-ranged) → Seconds c.args.t.now c.in-Value.m c.in-Value-ranged.s
 read c =
-            record {
+    record {
       letter = c.if-t-ne84.false;
       minutes-read = sym c.minutes.ensures ∙ c.in-Value.is;
       colon = c.if-t-ne58.false;

@@ -8,4 +8,4 @@ returns-then-not-is_sign c = sym (read_no _ _ 0 (sym c.is_sign.ensures ∙ c.if-
 
 pub returns : goal.returns
 returns c =
-        c.minutes.ensures ∙ sym (zone-is c.args.t.now (sym c.is_sign.ensures ∙ c.if-not-is_sign.false))
+    c.minutes.ensures ∙ sym (zone-is c.args.t.now (sym c.is_sign.ensures ∙ c.if-not-is_sign.false))

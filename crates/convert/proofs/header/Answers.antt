@@ -32,10 +32,10 @@ returns-then-j c = let both = untouched _ _ _ 0 _ (outcome-at-After-no_header-th
 
 pub write_header-requires : goal.write_header-requires
 write_header-requires c =
-        let a = c.args in
+    let a = c.args in
     let r = ready a.message.now a.station.now c.judge-j.result c.judge-j.ensures c.if-j-ne0.false c.if-j.false in
     record { station_value = r.named; body_value = r.body; in_bounds = c.if-out-lt252.false }
 
 pub returns : goal.returns
 returns c =
-            rw (outcome-at-After-slice_known-2-1 c ∙ alert no_header _ c.judge-j.result c.if-j-ne0.false c.if-j.false) (record { value = c.write_header.ensures.value; out_after = c.write_header.ensures.out_after })
+    rw (outcome-at-After-slice_known-2-1 c ∙ alert no_header _ c.judge-j.result c.if-j-ne0.false c.if-j.false) (record { value = c.write_header.ensures.value; out_after = c.write_header.ensures.out_after })

@@ -23,7 +23,7 @@ overflow_add-result c = omega (arith, (has _ c.requires.b_value).few)
 
 pub returns : goal.returns
 returns c =
-        let a = c.args in
+    let a = c.args in
     let station = a.station.now in
     let named = c.eight_at-named.ensures ∙ take_all 8 station (omega (arith, station-long station c.requires.station_value)) in
     record { value = sym (length-header (record { body = a.b; station = station }) c.requires.b_value c.requires.station_value); out_after = c.put_header.ensures ∙ ap (λ (w : List ℕ). sets a.out.now 0 (station_header w a.b)) named }

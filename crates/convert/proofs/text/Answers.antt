@@ -37,7 +37,7 @@ outcome-at-After-slice_known-4-1 c = long no_text _ _ _ _ (roomy-at-After-slice_
 pub returns-then-not-is_roomy : goal.returns-then-not-is_roomy
 unfolding text_call
 returns-then-not-is_roomy c =
-        let a = c.args in let both = untouched _ _ _ _ 2 0 (short no_text _ _ a.message.now a.station.now (sym c.is_roomy.ensures ∙ c.if-not-is_roomy.true)) c.answer_alone.ensures in record { value = both.0; text_after = both.1.0; uri_after = both.1.1 }
+    let a = c.args in let both = untouched _ _ _ _ 2 0 (short no_text _ _ a.message.now a.station.now (sym c.is_roomy.ensures ∙ c.if-not-is_roomy.true)) c.answer_alone.ensures in record { value = both.0; text_after = both.1.0; uri_after = both.1.1 }
 
 pub returns-then-j-ne0 : goal.returns-then-j-ne0
 returns-then-j-ne0 c = let both = untouched _ _ _ _ _ _ (outcome c ∙ refused no_text _ c.judge-j.result c.if-j-ne0.true) c.answer_alone-then-j-ne0.ensures in record { value = both.0; text_after = both.1.0; uri_after = both.1.1 }
@@ -47,11 +47,11 @@ returns-then-j c = let both = untouched _ _ _ _ 0 _ (outcome-at-After-answer_alo
 
 pub write_text-requires : goal.write_text-requires
 write_text-requires c =
-        let a = c.args in
+    let a = c.args in
     let r = ready a.message.now a.station.now c.judge-j.result c.judge-j.ensures c.if-j-ne0.false c.if-j.false in
     let room = room_of_lem _ _ (roomy-at-After-write_text-arg-2-1 c) in
     record { body_value = r.body; uri_fits = r.fits; in_bounds = room.0; in_bounds_2 = room.1 }
 
 pub returns : goal.returns
 returns c =
-            rw (outcome-at-After-slice_known-4-1 c ∙ alert no_text _ c.judge-j.result c.if-j-ne0.false c.if-j.false) (record { value = c.write_text.ensures.value; text_after = c.write_text.ensures.text_after; uri_after = c.write_text.ensures.uri_after })
+    rw (outcome-at-After-slice_known-4-1 c ∙ alert no_text _ c.judge-j.result c.if-j-ne0.false c.if-j.false) (record { value = c.write_text.ensures.value; text_after = c.write_text.ensures.text_after; uri_after = c.write_text.ensures.uri_after })

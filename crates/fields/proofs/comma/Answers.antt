@@ -1,4 +1,3 @@
-use Prim.Native.Nat.{◌-◌}
 use mathlib.Core.Path.{◌∙◌}
 use Rattle.fields.proofs.Partings.{first-here, first_on, first-none}
 use Rattle.fields.proofs.comma.Goals as goal

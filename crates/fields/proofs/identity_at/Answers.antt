@@ -14,10 +14,10 @@ copy-n-requires c = simp length-take (omega arith)
 
 pub slice_bounds-is_identity-end : goal.slice_bounds-is_identity-end
 slice_bounds-is_identity-end c =
-        let a = c.args in
+    let a = c.args in
     copy-fits (replicate {A = ℕ} 65 0) (value_at a.s.now a.at) _ _ _ refl c.copy-n.ensures.out_after c.copy-n.ensures.value
 
 pub returns : goal.returns
 returns c =
-        let a = c.args in
+    let a = c.args in
     c.is_identity.ensures ∙ ap identity_ok (copied-back (replicate {A = ℕ} 65 0) (value_at a.s.now a.at) _ _ _ refl c.copy-n.ensures.out_after c.copy-n.ensures.value) ∙ identity-copied _

@@ -60,7 +60,7 @@ slice_bounds-instant-start c = let g = parts-at-Else-not-is_identity-2 c in omeg
 
 pub returns : goal.returns
 returns c =
-            let g = parts-at-After-is_time c in
+    let g = parts-at-After-is_time c in
     sym (time-decides _
     (sender-as g c.is_identity.ensures ∙ c.if-not-is_identity.false)
     (identifier-as g c.is_identity-2.ensures ∙ c.if-not-is_identity-2.false)

@@ -1,8 +1,6 @@
-use Prim.Native.Nat.{◌-◌}
 use mathlib.Core.Path.{refl, sym, ◌∙◌}
 use native.Mathlib.Omega.{arith}
 use Rattle.octets.proofs.Tests.{below-between}
-use Rattle.fields.specs.Fields.{is_identity_byte}
 use Rattle.fields.proofs.Identities.{identity-no, identity-is, identity-long, byte-fails, byte-passes, bytes-end}
 use borrow.Author.Rules.{rules}
 use Rattle.fields.proofs.is_identity.Goals as goal

@@ -1,4 +1,3 @@
-use Prim.Native.Nat.{◌-◌}
 use mathlib.Core.Path.{sym, ◌∙◌}
 use native.Mathlib.Omega.{arith}
 use Rattle.values.proofs.Steps.{step-more}
@@ -16,15 +15,15 @@ returns-then-c-eq32 c = let both = word-space c.loop-c.invariant _ _ (sym c.step
 
 pub overflow_add-k : goal.overflow_add-k
 overflow_add-k c =
-            let m = (step-more _ _ _ _ (sym c.step-g.ensures ∙ c.in-Is.is)).1 in
+    let m = (step-more _ _ _ _ (sym c.step-g.ensures ∙ c.in-Is.is)).1 in
     let n = c.loop-c.invariant.counts in
     omega arith
 
 pub loop-c-smaller : goal.loop-c-smaller
 loop-c-smaller c =
-        let m = (step-more _ _ _ _ (sym c.step-g.ensures ∙ c.in-Is.is)).1 in
+    let m = (step-more _ _ _ _ (sym c.step-g.ensures ∙ c.in-Is.is)).1 in
     omega arith
 
 pub loop-c-preserved : goal.loop-c-preserved
 loop-c-preserved c =
-                word_more c.loop-c.invariant _ _ (sym c.step-g.ensures ∙ c.in-Is.is) c.if-c-eq32.false _ _ c.low_of.ensures c.keep.ensures
+    word_more c.loop-c.invariant _ _ (sym c.step-g.ensures ∙ c.in-Is.is) c.if-c-eq32.false _ _ c.low_of.ensures c.keep.ensures

@@ -25,23 +25,23 @@ loop-left-init c = rw c.lead-i.ensures (fine-starts _ _)
 
 pub returns-then-n-gt155 : goal.returns-then-n-gt155
 returns-then-n-gt155 c =
-            fine-not _ _ _ _ c.loop-left.invariant (group-long _ _ (len_is _ _ _ c.next_word-w.ensures.value) c.if-n-gt155.true)
+    fine-not _ _ _ _ c.loop-left.invariant (group-long _ _ (len_is _ _ _ c.next_word-w.ensures.value) c.if-n-gt155.true)
 
 pub slice_bounds-is_group-end : goal.slice_bounds-is_group-end
 slice_bounds-is_group-end c =
-        omega (arith, word_room _ _ _ _ c.next_word-w.ensures.value c.next_word-w.ensures.out_after)
+    omega (arith, word_room _ _ _ _ c.next_word-w.ensures.value c.next_word-w.ensures.out_after)
 
 pub returns-then-not-is_group : goal.returns-then-not-is_group
 returns-then-not-is_group c = fine-not _ _ _ _ c.loop-left.invariant (group-is c ∙ c.if-not-is_group.true)
 
 pub returns-then-not-w : goal.returns-then-not-w
 returns-then-not-w c =
-            let ok = group-is-at-Then-not-w c ∙ c.if-not-is_group.false in
+    let ok = group-is-at-Then-not-w c ∙ c.if-not-is_group.false in
     fine-last _ _ _ _ c.loop-left.invariant c.loop-left-test.true ok (sym (more-is _ _ _ c.next_word-w.ensures.value) ∙ not-true _ c.if-not-w.true)
 
 pub loop-left-preserved : goal.loop-left-preserved
 loop-left-preserved c =
-                let ok = group-is-at-Else-not-w c ∙ c.if-not-is_group.false in
+    let ok = group-is-at-Else-not-w c ∙ c.if-not-is_group.false in
     ap (λ (k : ℕ). fine (c.loop-left.left - 1) (words (rest_at c.args.s.now k))) (next-is _ _ _ c.next_word-w.ensures.value)
     ∙ fine_more _ _ _ _ c.loop-left.invariant c.loop-left-test.true ok (sym (more-is _ _ _ c.next_word-w.ensures.value) ∙ not-false _ c.if-not-w.false)
 

@@ -14,10 +14,10 @@ copy-n-requires c = simp length-take (omega arith)
 
 pub slice_bounds-instant-end : goal.slice_bounds-instant-end
 slice_bounds-instant-end c =
-        let a = c.args in
+    let a = c.args in
     copy-fits (replicate {A = ℕ} 26 0) (value_at a.s.now a.at) _ _ _ refl c.copy-n.ensures.out_after c.copy-n.ensures.value
 
 pub returns : goal.returns
 returns c =
-        let a = c.args in
+    let a = c.args in
     c.instant.ensures ∙ ap time_of (copied-back (replicate {A = ℕ} 26 0) (value_at a.s.now a.at) _ _ _ refl c.copy-n.ensures.out_after c.copy-n.ensures.value) ∙ time-copied _

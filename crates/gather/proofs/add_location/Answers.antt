@@ -28,7 +28,7 @@ named-at-After-slice_known-in-Bad-1 c = sym c.equal.ensures ∙ c.if-not-equal.f
 pub returns-then-not-is_pair : goal.returns-then-not-is_pair
 unfolding location_step
 returns-then-not-is_pair c =
-            rw (sym c.is_pair.ensures ∙ c.if-not-is_pair.true) (let both = location-fault 51 (c.put_bit.ensures.but_for, c.put_bit.ensures.a_after) in record { but_for = both.0; locations_from_after = both.1 })
+    rw (sym c.is_pair.ensures ∙ c.if-not-is_pair.true) (let both = location-fault 51 (c.put_bit.ensures.but_for, c.put_bit.ensures.a_after) in record { but_for = both.0; locations_from_after = both.1 })
 
 pub returns-then-not-equal : goal.returns-then-not-equal
 unfolding location_step bytes
@@ -38,11 +38,11 @@ returns-then-not-equal c =
 pub returns-in-Value : goal.returns-in-Value
 unfolding location_step
 returns-in-Value c =
-            rw (paired-at-After-slice_known-in-Value-1 c, named c, sym c.six_digits-v.ensures ∙ c.in-Value.is)
+    rw (paired-at-After-slice_known-in-Value-1 c, named c, sym c.six_digits-v.ensures ∙ c.in-Value.is)
     (record { but_for = c.place_location.ensures.but_for; locations_from_after = c.place_location.ensures.a_after })
 
 pub returns-in-Bad : goal.returns-in-Bad
 unfolding location_step
 returns-in-Bad c =
-            rw (paired-at-After-slice_known-in-Bad-1 c, named-at-After-slice_known-in-Bad-1 c, sym c.six_digits-v.ensures ∙ c.in-Bad.is)
+    rw (paired-at-After-slice_known-in-Bad-1 c, named-at-After-slice_known-in-Bad-1 c, sym c.six_digits-v.ensures ∙ c.in-Bad.is)
     (let both = location-bad 51 (c.put_bit-in-Bad.ensures.but_for, c.put_bit-in-Bad.ensures.a_after) in record { but_for = both.0; locations_from_after = both.1 })

@@ -22,5 +22,5 @@ returns-then-not-event_ok c = sym (head-refused 3 _ (sym c.event_ok.ensures ∙ 
 pub returns : goal.returns
 unfolding bytes
 returns c =
-                let o = sym c.originator_of.ensures ∙ c.in-Known.is in
+    let o = sym c.originator_of.ensures ∙ c.in-Known.is in
     sym (head-taken _ _ (sym c.stands_at.ensures ∙ c.if-not-stands_at.false, (ap is_known o, (eq-eqb _ _ c.if-s-ne45.false, (sym c.event_ok.ensures ∙ c.if-not-event_ok.false, tt)))) o)

@@ -56,7 +56,7 @@ returns-then-not-is_period c = sym (period-refused 3 _ (ap is_period (whole c) �
 
 pub returns : goal.returns
 returns c =
-            let h = ranged-yes 0 99 _ _ (hours-at-Else-not-is_period c) in
+    let h = ranged-yes 0 99 _ _ (hours-at-Else-not-is_period c) in
     let m = ranged-yes 0 59 _ _ (minutes-at-Else-not-is_period c) in
     let e = whole-at-Else-not-is_period c in
     sym (period-taken _ _ (eq-eqb _ _ c.if-t-ne43.false, (h.0, (m.0, (ap is_period e ∙ sym c.is_period.ensures ∙ c.if-not-is_period.false, tt)))) e)

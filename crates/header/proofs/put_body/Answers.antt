@@ -26,16 +26,16 @@ event-long-at-After-slice_known-7-1 c = search rules
 
 pub put_bytes-requires-2 : goal.put_bytes-requires-2
 put_bytes-requires-2 c =
-                omega (arith, event-long c, c.requires, c.put_bytes.auto.out, c.put_originator.auto.out, c.put_byte.auto.out)
+    omega (arith, event-long c, c.requires, c.put_bytes.auto.out, c.put_originator.auto.out, c.put_byte.auto.out)
 
 pub put_locations-requires : goal.put_locations-requires
 put_locations-requires c =
-                    omega (arith, list-long c, c.requires, c.put_bytes.auto.out, c.put_originator.auto.out, c.put_byte.auto.out, c.put_bytes-2.auto.out)
+    omega (arith, list-long c, c.requires, c.put_bytes.auto.out, c.put_originator.auto.out, c.put_byte.auto.out, c.put_bytes-2.auto.out)
 
 pub returns : goal.returns
 unfolding body_bytes bytes
 returns c =
-                            let a = c.args in
+    let a = c.args in
     let b = a.b in
     let l = locations_bytes (take b.count b.locations) in
     let long = length-first b.count b.locations (omega (arith, list-long-at-After-slice_known-7-1 c, c.requires)) in

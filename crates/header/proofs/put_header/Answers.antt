@@ -25,12 +25,12 @@ station-long-at-After-slice_known-4-1 c = search rules
 
 pub put_bytes-requires : goal.put_bytes-requires
 put_bytes-requires c =
-        omega (arith, station-long c, c.requires, c.put_body.auto.out)
+    omega (arith, station-long c, c.requires, c.put_body.auto.out)
 
 pub returns : goal.returns
 unfolding header_bytes
 returns c =
-                let a = c.args in
+    let a = c.args in
     let p = a.p in
     let long = length-body p.body (event-long c) (omega (arith, list-long c, c.requires)) in
     let two = behind _ (26 + 7 * p.body.count) p.station {e = 26 + 7 * p.body.count + 8} (45 ∷ []) c.put_bytes.ensures (omega (arith, station-long-at-After-slice_known-4-1 c)) c.put_byte.ensures in

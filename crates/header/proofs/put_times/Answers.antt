@@ -12,7 +12,7 @@ use Rattle.header.proofs.put_times.Goals as goal
 pub returns : goal.returns
 unfolding times_bytes
 returns c =
-                let a = c.args in
+    let a = c.args in
     let one = and (begin a.out.now a.at) (43 ∷ []) _ (a.at + 1) refl c.put_byte.ensures in
     let two = and one (tttt a.period) _ (a.at + 5) (omega (arith, length-tttt a.period)) c.put_tttt.ensures in
     let three = and two (45 ∷ []) _ (a.at + 6) (omega arith) c.put_byte-2.ensures in

@@ -72,7 +72,7 @@ returns-in_default c = c.refused_body-in_default.ensures ∙ sym (body_refused 1
 
 pub locations_of-found-requires : goal.locations_of-found-requires
 locations_of-found-requires c =
-        omega (arith, length-is _ (lengthy-at-In-Known c), few-in _ (lengthy-at-In-Known c))
+    omega (arith, length-is _ (lengthy-at-In-Known c), few-in _ (lengthy-at-In-Known c))
 
 pub returns-then-not-found : goal.returns-then-not-found
 returns-then-not-found c = c.refused_body-then-not-found.ensures ∙ sym (body_refused 2 _ (sym (form-is _ _ _) ∙ sym (ap (λ (r : Locations). r.ok) c.locations_of-found.ensures) ∙ not-true _ c.if-not-found.true))
@@ -100,6 +100,6 @@ three_at-event-requires c = omega (arith, length-is _ (lengthy-at-In-At c))
 
 pub returns : goal.returns
 returns c =
-                        let e = times-at-After-locations-1 c in
+    let e = times-at-After-locations-1 c in
     body-taken _ _ _ _ _ _ _ _ (lengthy-at-After-locations-1 c) (sym c.head_of.ensures ∙ c.in-Known.is) c.three_at-event.ensures c.locations_of-found.ensures (not-false _ c.if-not-found.false)
     (ap period_read e ∙ sym c.period_of.ensures ∙ c.in-Value.is) (ap time_read e ∙ sym c.time_of.ensures ∙ c.in-At.is)

@@ -42,4 +42,4 @@ returns-then-s-at-ne45 c = c.refused-then-s-at-ne45.ensures ∙ sym (header_refu
 
 pub returns : goal.returns
 returns c =
-                header-taken _ _ _ (front-at-After-body-1 c) c.if-front-ne0.false (station-at-After-body-1 c ∙ c.if-not-station_ok.false) c.if-s-at-ne45.false c.eight_at-station.ensures
+    header-taken _ _ _ (front-at-After-body-1 c) c.if-front-ne0.false (station-at-After-body-1 c ∙ c.if-not-station_ok.false) c.if-s-at-ne45.false c.eight_at-station.ensures

@@ -22,7 +22,7 @@ returns-then-t-ne45-2 c = sym (time-refused 4 _ (ne_eqb _ _ c.if-t-ne45-2.true))
 
 pub returns : goal.returns
 returns c =
-            let d = ranged-yes 1 366 _ _ (sym c.ranged.ensures ∙ c.in-Value.is) in
+    let d = ranged-yes 1 366 _ _ (sym c.ranged.ensures ∙ c.in-Value.is) in
     let h = ranged-yes 0 23 _ _ (sym c.ranged-2.ensures ∙ c.in-Value-ranged.is) in
     let m = ranged-yes 0 59 _ _ (sym c.ranged-3.ensures ∙ c.in-Value-ranged-2.is) in
     sym (time-taken _ _ _ _ (eq-eqb _ _ c.if-t-ne45.false, (d.0, (h.0, (m.0, (eq-eqb _ _ c.if-t-ne45-2.false, tt))))) d.1 h.1 m.1)

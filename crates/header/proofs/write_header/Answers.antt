@@ -29,7 +29,7 @@ returns-then-not-station_ok c = let r = write-refused _ c.args.p 2 (number-stati
 
 pub returns-then-not-body_ok : goal.returns-then-not-body_ok
 returns-then-not-body_ok c =
-        let r = write-refused _ c.args.p 16 (number-parts _ _ c.if-out-lt252.false (stationed c) (sym c.body_ok.ensures ∙ c.if-not-body_ok.true)) in record { value = sym r.0; out_after = sym r.1 }
+    let r = write-refused _ c.args.p 16 (number-parts _ _ c.if-out-lt252.false (stationed c) (sym c.body_ok.ensures ∙ c.if-not-body_ok.true)) in record { value = sym r.0; out_after = sym r.1 }
 
 pub put_header-requires : goal.put_header-requires
 put_header-requires c = omega (arith, (has _ (bodied c)).few, c.if-out-lt252.false)
@@ -42,6 +42,6 @@ overflow_add-result c = omega (arith, (has _ (bodied-at-After-struct_known-1 c))
 
 pub returns : goal.returns
 returns c =
-                let p = c.args.p in
+    let p = c.args.p in
     let r = write_done c.args.out.now p (number-none _ _ c.if-out-lt252.false (stationed-at-After-struct_known-1 c) (bodied-at-After-struct_known-1 c)) in
     record { value = ap (λ (n : ℕ). record { number = 0; len = n }) (sym (length-header p (bodied-at-After-struct_known-1 c) (stationed-at-After-struct_known-1 c))) ∙ sym r.0; out_after = c.put_header.ensures ∙ sym r.1 }

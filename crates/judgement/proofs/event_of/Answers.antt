@@ -23,13 +23,13 @@ copy-n-requires c = simp length-take (omega arith)
 
 pub slice_bounds-event_ok-end : goal.slice_bounds-event_ok-end
 slice_bounds-event_ok-end c =
-        let a = c.args in
+    let a = c.args in
     copy-fits (replicate {A = ℕ} 4 0) (value_at a.s.now a.l.at) _ _ _ refl c.copy-n.ensures.out_after c.copy-n.ensures.value
 
 pub returns-then-not-event_ok : goal.returns-then-not-event_ok
 unfolding event_of event_is
 returns-then-not-event_ok c =
-            let a = c.args in
+    let a = c.args in
     let v = value_at a.s.now a.l.at in
     let bad : event_ok v ≡ false = sym (event-judged v _ _ c.copy-n.ensures.out_after c.copy-n.ensures.value _ c.event_ok.ensures) ∙ c.if-not-event_ok.true in
     rw (eq-eqb _ _ c.if-l-ne1.false, bad) c.no_event-then-not-event_ok.ensures
@@ -37,7 +37,7 @@ returns-then-not-event_ok c =
 pub returns : goal.returns
 unfolding event_of event_is
 returns c =
-            let a = c.args in
+    let a = c.args in
     let v = value_at a.s.now a.l.at in
     let ok : event_ok v ≡ true = sym (event-judged v _ _ c.copy-n.ensures.out_after c.copy-n.ensures.value _ c.event_ok.ensures) ∙ c.if-not-event_ok.false in
     let n = three-of v _ _ c.copy-n.ensures.out_after c.copy-n.ensures.value (event-long v ok) in

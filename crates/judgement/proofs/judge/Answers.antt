@@ -16,15 +16,15 @@ returns-then-lacks_references c = rw (sym c.read-m.ensures, eq-eqb _ _ c.if-m-ne
 pub returns-then-is_quiet : goal.returns-then-is_quiet
 unfolding judged_by
 returns-then-is_quiet c =
-        rw (sym c.read-m.ensures, eq-eqb _ _ c.if-m-ne0.false, sym c.lacks_references.ensures ∙ c.if-lacks_references.false, sym c.is_quiet.ensures ∙ c.if-is_quiet.true)
+    rw (sym c.read-m.ensures, eq-eqb _ _ c.if-m-ne0.false, sym c.lacks_references.ensures ∙ c.if-lacks_references.false, sym c.is_quiet.ensures ∙ c.if-is_quiet.true)
     c.no_header-then-is_quiet.ensures
 
 pub alert_of-requires : goal.alert_of-requires
 alert_of-requires c =
-        rw c.read-m.ensures (sent-in c.args.s.now)
+    rw c.read-m.ensures (sent-in c.args.s.now)
 
 pub returns : goal.returns
 unfolding judged_by
 returns c =
-        rw (sym c.read-m.ensures, eq-eqb _ _ c.if-m-ne0.false, sym c.lacks_references.ensures ∙ c.if-lacks_references.false, sym c.is_quiet.ensures ∙ c.if-is_quiet.false)
+    rw (sym c.read-m.ensures, eq-eqb _ _ c.if-m-ne0.false, sym c.lacks_references.ensures ∙ c.if-lacks_references.false, sym c.is_quiet.ensures ∙ c.if-is_quiet.false)
     c.alert_of.ensures

@@ -19,7 +19,7 @@ copy-n-requires c = simp length-take (omega arith)
 pub returns-then-n-ne3 : goal.returns-then-n-ne3
 unfolding origin_of
 returns-then-n-ne3 c =
-        let a = c.args in
+    let a = c.args in
     let v = value_at a.s.now a.l.at in
     let other : length v ≡ 3 → ⊥ = λ h. c.if-n-ne3.true (three-of v _ _ c.copy-n.ensures.out_after c.copy-n.ensures.value h) in
     rw (ne_eqb _ _ c.if-l-eq0.false, origin-other v other)
@@ -27,7 +27,7 @@ returns-then-n-ne3 c =
 pub returns : goal.returns
 unfolding origin_of
 returns c =
-        let a = c.args in
+    let a = c.args in
     let v = value_at a.s.now a.l.at in
     let code = three_back v _ _ c.copy-n.ensures.out_after c.copy-n.ensures.value c.if-n-ne3.false in
     rw (ne_eqb _ _ c.if-l-eq0.false) (c.originator_of.ensures ∙ ap originator_of code ∙ origin-low v)

@@ -1,4 +1,4 @@
-use Prim.Native.Nat.{◌-◌, ◌+◌}
+use Prim.Native.Nat.{◌+◌}
 use mathlib.Core.Logic.{inl}
 use mathlib.Core.Path.{◌∙◌}
 use native.Mathlib.Omega.{arith}
@@ -12,7 +12,7 @@ loop-k-init c = putting-starts _ _ _ _
 
 pub loop-k-preserved : goal.loop-k-preserved
 loop-k-preserved c =
-            let w = c.loop-k in
+    let w = c.loop-k in
     let e = w.invariant.but.same (29 + w.k) (inl (omega (arith, c.loop-k-test.true))) in
     putting-on _ _ _ _ _ _ _ c.loop-k-test.true w.invariant c.put_number.ensures.but_for (c.put_number.ensures.a_after ∙ e)
 

@@ -1,4 +1,3 @@
-use Prim.Native.Nat.{◌-◌}
 use native.Mathlib.Omega.{arith}
 use Rattle.lent.proofs.Clears.{reading-starts, reading-on, numbers-are}
 use Rattle.lent.proofs.list_at.Goals as goal

@@ -1,4 +1,3 @@
-use Prim.Native.Nat.{◌-◌}
 use mathlib.Core.Path.{◌∙◌}
 use native.Mathlib.Omega.{arith}
 use Rattle.lent.proofs.Clears.{absent-starts, absent-on, leaves-absent}
@@ -9,7 +8,7 @@ loop-i-init c = absent-starts _ _ _ _
 
 pub loop-i-preserved : goal.loop-i-preserved
 loop-i-preserved c =
-            absent-on _ _ _ _ _ _ _ c.loop-i-test.true c.loop-i.invariant c.put_leaf.ensures.but_for (c.put_leaf.ensures.a_after ∙ c.no_leaf-l.ensures)
+    absent-on _ _ _ _ _ _ _ c.loop-i-test.true c.loop-i.invariant c.put_leaf.ensures.but_for (c.put_leaf.ensures.a_after ∙ c.no_leaf-l.ensures)
 
 pub shape_of-st : goal.shape_of-st
 shape_of-st c = c.loop-i.invariant.but.long

@@ -1,4 +1,3 @@
-use Prim.Native.Nat.{◌-◌}
 use native.Mathlib.Omega.{arith}
 use Rattle.lent.proofs.Clears.{putting-starts, putting-on}
 use Rattle.lent.proofs.put_zeros.Goals as goal
@@ -8,7 +7,7 @@ loop-i-init c = putting-starts _ _ _ _
 
 pub loop-i-preserved : goal.loop-i-preserved
 loop-i-preserved c =
-            putting-on (λ j. 0) _ _ _ _ _ _ c.loop-i-test.true c.loop-i.invariant c.put_number.ensures.but_for c.put_number.ensures.a_after
+    putting-on (λ j. 0) _ _ _ _ _ _ c.loop-i-test.true c.loop-i.invariant c.put_number.ensures.but_for c.put_number.ensures.a_after
 
 pub shape_of-st : goal.shape_of-st
 shape_of-st c = c.loop-i.invariant.but.long

@@ -1,4 +1,3 @@
-use Prim.Native.Nat.{◌-◌}
 use mathlib.Core.Path.{sym, ◌∙◌}
 use native.Mathlib.Omega.{arith}
 use Rattle.markup.proofs.Miscs.{going-starts, going_on, going-moves, going-stops, going-stuck}

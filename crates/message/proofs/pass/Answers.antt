@@ -115,28 +115,28 @@ follows-at-After-judge c = sym c.misc-m.ensures ∙ c.in-At-m.is
 
 pub returns-in_default : goal.returns-in_default
 returns-in_default c =
-        c.refused.ensures ∙ pass-none (bytes c) (prefix c) (is_root c) (root c) c.element-g.result (got c) c.in_default.is
+    c.refused.ensures ∙ pass-none (bytes c) (prefix c) (is_root c) (root c) c.element-g.result (got c) c.in_default.is
 
 pub returns-in_default-m : goal.returns-in_default-m
 returns-in_default-m c =
-            c.refused-in_default-m.ensures
+    c.refused-in_default-m.ensures
     ∙ pass-unended (bytes-at-After-refused-in_default-m c) (prefix-at-After-refused-in_default-m c) (is_root-at-After-refused-in_default-m c) (root-at-After-refused-in_default-m c) c.element-g.result (got-at-After-refused-in_default-m c) c.in-At.j c.in-At.is
     (sym c.misc-m.ensures ∙ c.in_default-m.is)
 
 pub returns-then-k-n : goal.returns-then-k-n
 returns-then-k-n c =
-                c.refused-then-k-n.ensures
+    c.refused-then-k-n.ensures
     ∙ pass-more (bytes-at-After-refused-then-k-n c) (prefix-at-After-refused-then-k-n c) (is_root-at-After-refused-then-k-n c) (root-at-After-refused-then-k-n c) c.element-g.result (got-at-After-refused-then-k-n c) c.in-At.j c.in-At.is c.in-At-m.k (follows c)
     c.if-k-n.true
 
 pub returns-then-not-ok : goal.returns-then-not-ok
 returns-then-not-ok c =
-                c.refused-then-not-ok.ensures
+    c.refused-then-not-ok.ensures
     ∙ pass-other (bytes-at-After-refused-then-not-ok c) (prefix-at-After-refused-then-not-ok c) (is_root-at-After-refused-then-not-ok c) (root-at-After-refused-then-not-ok c) c.element-g.result (got-at-After-refused-then-not-ok c) c.in-At.j c.in-At.is c.in-At-m.k (follows-at-After-refused-then-not-ok c)
     c.if-k-n.false c.if-not-ok.true
 
 pub returns : goal.returns
 returns c =
-                c.judge.ensures
+    c.judge.ensures
     ∙ pass-is (bytes-at-After-judge c) (prefix-at-After-judge c) (is_root-at-After-judge c) (root-at-After-judge c) c.element-g.result (got-at-After-judge c) c.in-At.j c.in-At.is c.in-At-m.k (follows-at-After-judge c)
     c.if-k-n.false c.if-not-ok.false

@@ -23,7 +23,7 @@ colon-c-requires c =
     let a = c.args in
     let s = a.s.now in
     let i = a.i + 1 in
-        let e : name_at s i ≡ At c.in-At.to = sym c.name-x.ensures ∙ c.in-At.is in
+    let e : name_at s i ≡ At c.in-At.to = sym c.name-x.ensures ∙ c.in-At.is in
     let g = name-ends s i c.in-At.to e in let g0 = g.0 in let g1 = g.1 in (omega arith, omega arith)
 
 pub slice_bounds-p-count : goal.slice_bounds-p-count
@@ -31,7 +31,7 @@ slice_bounds-p-count c =
     let a = c.args in
     let s = a.s.now in
     let i = a.i + 1 in
-        let e : name_at s i ≡ At c.in-At.to = sym c.name-x.ensures ∙ c.in-At.is in
+    let e : name_at s i ≡ At c.in-At.to = sym c.name-x.ensures ∙ c.in-At.is in
     let g = name-ends s i c.in-At.to e in let g0 = g.0 in let g1 = g.1 in let k = colon-from s i c.in-At.to c.colon-c.result c.colon-c.ensures in omega arith
 
 pub slice_bounds-p-start : goal.slice_bounds-p-start
@@ -39,7 +39,7 @@ slice_bounds-p-start c =
     let a = c.args in
     let s = a.s.now in
     let i = a.i + 1 in
-        let e : name_at s i ≡ At c.in-At.to = sym c.name-x.ensures ∙ c.in-At.is in
+    let e : name_at s i ≡ At c.in-At.to = sym c.name-x.ensures ∙ c.in-At.is in
     let g = name-ends s i c.in-At.to e in let g0 = g.0 in let g1 = g.1 in let k = colon-from s i c.in-At.to c.colon-c.result c.colon-c.ensures in omega arith
 
 pub slice_bounds-p-end : goal.slice_bounds-p-end
@@ -47,7 +47,7 @@ slice_bounds-p-end c =
     let a = c.args in
     let s = a.s.now in
     let i = a.i + 1 in
-        let e : name_at s i ≡ At c.in-At.to = sym c.name-x.ensures ∙ c.in-At.is in
+    let e : name_at s i ≡ At c.in-At.to = sym c.name-x.ensures ∙ c.in-At.is in
     let g = name-ends s i c.in-At.to e in let g0 = g.0 in let g1 = g.1 in let k = colon-from s i c.in-At.to c.colon-c.result c.colon-c.ensures in omega arith
 
 pub slice_bounds-is_root-count : goal.slice_bounds-is_root-count
@@ -55,7 +55,7 @@ slice_bounds-is_root-count c =
     let a = c.args in
     let s = a.s.now in
     let i = a.i + 1 in
-        let e : name_at s i ≡ At c.in-At.to = sym c.name-x.ensures ∙ c.in-At.is in
+    let e : name_at s i ≡ At c.in-At.to = sym c.name-x.ensures ∙ c.in-At.is in
     let g = name-ends s i c.in-At.to e in let g0 = g.0 in let g1 = g.1 in let k = colon-from s i c.in-At.to c.colon-c.result c.colon-c.ensures in omega arith
 
 pub slice_bounds-is_root-start : goal.slice_bounds-is_root-start
@@ -63,7 +63,7 @@ slice_bounds-is_root-start c =
     let a = c.args in
     let s = a.s.now in
     let i = a.i + 1 in
-        let e : name_at s i ≡ At c.in-At.to = sym c.name-x.ensures ∙ c.in-At.is in
+    let e : name_at s i ≡ At c.in-At.to = sym c.name-x.ensures ∙ c.in-At.is in
     let g = name-ends s i c.in-At.to e in let g0 = g.0 in let g1 = g.1 in let k = colon-from s i c.in-At.to c.colon-c.result c.colon-c.ensures in omega arith
 
 pub slice_bounds-is_root-end-then-c-to : goal.slice_bounds-is_root-end-then-c-to
@@ -71,7 +71,7 @@ slice_bounds-is_root-end-then-c-to c =
     let a = c.args in
     let s = a.s.now in
     let i = a.i + 1 in
-        let e : name_at s i ≡ At c.in-At.to = sym c.name-x.ensures ∙ c.in-At.is in
+    let e : name_at s i ≡ At c.in-At.to = sym c.name-x.ensures ∙ c.in-At.is in
     let g = name-ends s i c.in-At.to e in let g0 = g.0 in let g1 = g.1 in let k = colon-from s i c.in-At.to c.colon-c.result c.colon-c.ensures in omega arith
 
 pub is_root-ok-requires : goal.is_root-ok-requires
@@ -79,7 +79,7 @@ is_root-ok-requires c =
     let a = c.args in
     let s = a.s.now in
     let i = a.i + 1 in
-        let e : name_at s i ≡ At c.in-At.to = sym c.name-x.ensures ∙ c.in-At.is in
+    let e : name_at s i ≡ At c.in-At.to = sym c.name-x.ensures ∙ c.in-At.is in
     let g = name-ends s i c.in-At.to e in let g0 = g.0 in let g1 = g.1 in (omega arith, omega arith)
 
 pub returns-then-c-to : goal.returns-then-c-to
@@ -88,7 +88,7 @@ returns-then-c-to c =
     let a = c.args in
     let s = a.s.now in
     let i = a.i + 1 in
-        let e : name_at s i ≡ At c.in-At.to = sym c.name-x.ensures ∙ c.in-At.is in
+    let e : name_at s i ≡ At c.in-At.to = sym c.name-x.ensures ∙ c.in-At.is in
     let o = rooted s (elem_at s 12 a.i) in
     let k = c.colon-c.result in
     let h = c.if-c-to.true in
@@ -100,7 +100,7 @@ slice_bounds-none-end c =
     let a = c.args in
     let s = a.s.now in
     let i = a.i + 1 in
-        let e : name_at s i ≡ At c.in-At.to = sym c.name-x.ensures ∙ c.in-At.is in
+    let e : name_at s i ≡ At c.in-At.to = sym c.name-x.ensures ∙ c.in-At.is in
     let g = name-ends s i c.in-At.to e in let g0 = g.0 in let g1 = g.1 in omega arith
 
 pub is_root-ok-requires-2 : goal.is_root-ok-requires-2
@@ -108,7 +108,7 @@ is_root-ok-requires-2 c =
     let a = c.args in
     let s = a.s.now in
     let i = a.i + 1 in
-        let e : name_at s i ≡ At c.in-At.to = sym c.name-x.ensures ∙ c.in-At.is in
+    let e : name_at s i ≡ At c.in-At.to = sym c.name-x.ensures ∙ c.in-At.is in
     let g = name-ends s i c.in-At.to e in let g0 = g.0 in let g1 = g.1 in (omega arith, omega arith)
 
 pub returns : goal.returns
@@ -117,7 +117,7 @@ returns c =
     let a = c.args in
     let s = a.s.now in
     let i = a.i + 1 in
-        let e : name_at s i ≡ At c.in-At.to = sym c.name-x.ensures ∙ c.in-At.is in
+    let e : name_at s i ≡ At c.in-At.to = sym c.name-x.ensures ∙ c.in-At.is in
     let o = rooted s (elem_at s 12 a.i) in
     let k = c.colon-c.result in
     let h = c.if-c-to.false in

@@ -1,4 +1,3 @@
-use Prim.Native.Nat.{◌-◌}
 use native.Mathlib.Omega.{arith}
 use Rattle.octets.proofs.Orders.{cmp-longer, cmp-shorter}
 use Rattle.octets.proofs.compare.Goals as goal

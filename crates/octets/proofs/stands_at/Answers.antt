@@ -1,6 +1,5 @@
 -- Past the end only the empty run stands; a run that goes past the end does not; else the part there decides.
 use mathlib.Core.Path.{sym}
-use Prim.Native.Nat.{◌-◌}
 use native.Mathlib.Omega.{arith}
 use Rattle.octets.proofs.Sames.{stands-past, past_end}
 use Rattle.octets.proofs.stands_at.Goals as goal

@@ -20,11 +20,11 @@ copy-requires-2 c = simp length-take (omega arith)
 
 pub put_body-requires : goal.put_body-requires
 put_body-requires c =
-        let n = (told c).places c.requires.2 in
+    let n = (told c).places c.requires.2 in
     record { count_bound = n; count_in_bounds = omega arith }
 
 pub returns : goal.returns
 unfolding own_in zero_filled_header
 returns c =
-                    let r = told-at-After-notice c in
+    let r = told-at-After-notice c in
     notice-laid _ _ _ _ _ _ _ _ r.sender r.identifier (r.header c.requires.2) c.copy.ensures.out_after c.copy-2.ensures.out_after c.put_body.ensures c.notice.ensures

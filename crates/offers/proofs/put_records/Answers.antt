@@ -24,7 +24,7 @@ returns-then-not-asks_references c = let both = put_alone _ _ _ _ _ c.put_notice
 
 pub put_withdrawals-requires : goal.put_withdrawals-requires
 put_withdrawals-requires c =
-                let r = told c in
+    let r = told c in
     let e = as_long _ _ _ _ _ c.put_notice-n.ensures.value c.put_notice-n.ensures.batch_after in
     record { at_value = r.references (has c); n_bound = (omega (arith, c.put_notice-n.ensures.value, r.one), omega (arith, e, c.requires.2)) }
 

@@ -9,18 +9,18 @@ use Rattle.offers.proofs.put_withdrawal.Goals as goal
 
 pub slice_bounds-withdrawal_by-end : goal.slice_bounds-withdrawal_by-end
 slice_bounds-withdrawal_by-end c =
-        word_fits _ _ _ _ c.next_word-w.ensures.value c.next_word-w.ensures.out_after c.requires.at_value
+    word_fits _ _ _ _ c.next_word-w.ensures.value c.next_word-w.ensures.out_after c.requires.at_value
 
 pub withdrawal_by-r-requires : goal.withdrawal_by-r-requires
 withdrawal_by-r-requires c =
-        let ok = c.requires.at_value in
+    let ok = c.requires.at_value in
     ap group_ok (word_back _ _ _ _ c.next_word-w.ensures.value c.next_word-w.ensures.out_after ok) ∙ ok
 
 pub put_bytes-requires : goal.put_bytes-requires
 put_bytes-requires c =
-                omega (arith, withdrawal-long _ _ _ _ c.next_word-w.ensures.value c.next_word-w.ensures.out_after c.requires.at_value _ c.withdrawal_by-r.ensures, c.requires.k_in_bounds)
+    omega (arith, withdrawal-long _ _ _ _ c.next_word-w.ensures.value c.next_word-w.ensures.out_after c.requires.at_value _ c.withdrawal_by-r.ensures, c.requires.k_in_bounds)
 
 pub returns : goal.returns
 returns c =
-                    let e = withdrawal-is _ _ _ _ c.next_word-w.ensures.value c.next_word-w.ensures.out_after c.requires.at_value _ c.withdrawal_by-r.ensures in
+    let e = withdrawal-is _ _ _ _ c.next_word-w.ensures.value c.next_word-w.ensures.out_after c.requires.at_value _ c.withdrawal_by-r.ensures in
     record { value = c.next_word-w.ensures.value; batch_after = c.put_bytes.ensures ∙ ap (sets c.args.batch.now (c.args.k * 384)) e }

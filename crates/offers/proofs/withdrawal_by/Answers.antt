@@ -44,8 +44,8 @@ slice_bounds-withdrawal-end-2 c = let g = parts-at-After-withdrawal-arg-1 c in o
 
 pub withdrawal-requires : goal.withdrawal-requires
 withdrawal-requires c =
-        names-short _ _ _ c.requires (parts-at-After-withdrawal-arg-2-1 c)
+    names-short _ _ _ c.requires (parts-at-After-withdrawal-arg-2-1 c)
 
 pub returns : goal.returns
 returns c =
-            group-laid _ _ _ c.requires (parts-at-After-withdrawal c) _ _ _ c.instant-sent.ensures c.seconds.ensures c.withdrawal.ensures
+    group-laid _ _ _ c.requires (parts-at-After-withdrawal c) _ _ _ c.instant-sent.ensures c.seconds.ensures c.withdrawal.ensures

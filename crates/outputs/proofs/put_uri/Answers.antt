@@ -21,7 +21,7 @@ copy-requires c = simp length-take (omega (arith, c.requires.in_bounds))
 pub returns : goal.returns
 unfolding uri_in
 returns c =
-            let a = c.args in
+    let a = c.args in
     let v = value_at a.s.now a.a.uri in
     let some = ne_eqb _ _ c.if-a-eq0.false in
     let fits = rw some at c.requires.uri_fits in

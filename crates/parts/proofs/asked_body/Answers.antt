@@ -21,6 +21,6 @@ returns-then-not-asked c = c.no_body-then-not-asked.ensures ∙ sym (asked-refus
 
 pub returns : goal.returns
 returns c =
-            let ok : sixes_ok c.args.locations.now ≡ true = sym (ap (λ (r : Locations). r.ok) c.asked_locations-asked.ensures ∙ sixes-ok-is _) ∙ not-false _ c.if-not-asked.false in
+    let ok : sixes_ok c.args.locations.now ≡ true = sym (ap (λ (r : Locations). r.ok) c.asked_locations-asked.ensures ∙ sixes-ok-is _) ∙ not-false _ c.if-not-asked.false in
     asked-taken _ _ _ _ _ _ _ _ _ _ (sym c.originator_numbered.ensures ∙ c.in-Known.is) c.if-event-ne3.false ok
     (c.three_at-named.ensures ∙ take_all 3 _ (search rules)) (ap (λ (r : Locations). r.list) (c.asked_locations-asked.ensures ∙ sixes-taken _ ok))

@@ -43,7 +43,7 @@ returns-then-b-eq93 c = let a = c.args in char-bracket a.s.now a.at (sym c.byte-
 pub returns-then-b-lt128 : goal.returns-then-b-lt128
 returns-then-b-lt128 c =
     let a = c.args in
-        let l : byte_at a.s.now a.at < 128 = omega (arith, c.byte-b.ensures, c.if-b-lt128.true) in
+    let l : byte_at a.s.now a.at < 128 = omega (arith, c.byte-b.ensures, c.if-b-lt128.true) in
     char-low a.s.now a.at l (known-at-Then-b-lt128 c ∙ c.if-is_run.false) (λ e. c.if-b-eq93.false (c.byte-b.ensures ∙ e)) (λ e. c.if-b-eq38.false (c.byte-b.ensures ∙ e))
 
 pub wide-requires : goal.wide-requires

@@ -36,7 +36,7 @@ returns-then-b-ge128 c =
 pub returns-then-b-ne45 : goal.returns-then-b-ne45
 returns-then-b-ne45 c =
     let a = c.args in
-        let l : byte_at a.s.now a.i < 128 = omega (arith, c.byte-b.ensures, c.if-b-ge128.false) in
+    let l : byte_at a.s.now a.i < 128 = omega (arith, c.byte-b.ensures, c.if-b-ge128.false) in
     note-ends a.s.now a.i l (known-at-Then-b-ne45 c ∙ c.if-is_comment_byte.false) (λ e. c.if-b-ne45.true (c.byte-b.ensures ∙ e))
 
 pub returns-then-stands_at : goal.returns-then-stands_at

@@ -1,4 +1,4 @@
-use Prim.Native.Nat.{ℕ, ◌-◌}
+use Prim.Native.Nat.{ℕ}
 use native.Mathlib.Omega.{arith}
 use borrow.Author.Tests.{eqb-true}
 use Rattle.octets.specs.Bytes.{byte_at}
@@ -29,7 +29,7 @@ loop-k-preserved c =
     let a = c.args in
     let l = c.loop-k in
     let t = c.loop-k-test.true in
-        let more = each_more (λ (j : ℕ). is_run (byte_at a.s.now j)) a.at l.k in
+    let more = each_more (λ (j : ℕ). is_run (byte_at a.s.now j)) a.at l.k in
     (omega (arith, c.stirs-n.ensures.upper_bound, l.invariant.0), omega (arith, t), λ e. more (l.invariant.2 (omega (arith, e))) (c.stirs-n.ensures.b_value (omega (arith, e))))
 
 pub returns : goal.returns

@@ -1,4 +1,3 @@
-use Prim.Native.Nat.{◌-◌}
 use native.Mathlib.Omega.{arith}
 use Rattle.octets.proofs.Scans.{by-starts}
 use Rattle.pieces.specs.Pieces.{in_note}

@@ -126,11 +126,11 @@ overflow_add-result c = let h = semicolon-at-Then-is_legal c in omega arith
 
 pub returns-then-is_legal : goal.returns-then-is_legal
 returns-then-is_legal c =
-        let a = c.args in
+    let a = c.args in
     let g = digits-end-at-Then-is_legal c in
     let m : is_legal c.numeral-v.result ≡ true = sym c.is_legal.ensures ∙ c.if-is_legal.true in
     let f = behind-at-Then-is_legal c in
-        number_is a.base a.s.now a.at c.figures-e.result c.figures-e.ensures c.numeral-v.result c.numeral-v.ensures (omega arith) (omega arith) (omega arith) m
+    number_is a.base a.s.now a.at c.figures-e.result c.figures-e.ensures c.numeral-v.result c.numeral-v.ensures (omega arith) (omega arith) (omega arith) m
 
 pub returns-else-is_legal : goal.returns-else-is_legal
 returns-else-is_legal c = refused-at-Else-is_legal c 2 (rw (← c.numeral-v.ensures) (sym c.is_legal.ensures ∙ c.if-is_legal.false))

@@ -1,6 +1,6 @@
-use Prim.Native.Nat.{◌+◌, ◌-◌}
+use Prim.Native.Nat.{◌+◌}
 use mathlib.Core.Path.{refl, sym, ◌∙◌}
-use mathlib.Core.Logic.{◌⊎◌, inl, inr, ⊎_elim}
+use mathlib.Core.Logic.{inl, inr, ⊎_elim}
 use native.Mathlib.Omega.{arith}
 use lib.ListN.{length}
 use Rattle.octets.proofs.Scans.{ScanningBy, by-starts}
@@ -39,7 +39,7 @@ stretched-at-Else-n-eq0 c =
 -- where it goes on by another character
 turn : (c : goal.Else-n-eq0) → let a = c.args in Turned a.s.now (in_text a.s.now) a.at (c.loop-at.i + c.stretch-i.result) c.in_text-n.result
 turn c =
-        let s = c.args.s.now in
+    let s = c.args.s.now in
     turns s (in_text s) _ _ _ (text-steps s) c.in_text-n.ensures (stretched-at-Else-n-eq0 c) c.if-n-eq0.false
 
 pub returns-then-byte-eq60 : goal.returns-then-byte-eq60
@@ -59,7 +59,7 @@ overflow_add-i c =
 
 pub returns-then-n-eq0 : goal.returns-then-n-eq0
 returns-then-n-eq0 c =
-        let s = c.args.s.now in
+    let s = c.args.s.now in
     turn-ends s (in_text s) _ _ _ (text-steps s) c.in_text-n.ensures (stretched c) c.if-n-eq0.true
 
 pub overflow_add-i-in-loop-at : goal.overflow_add-i-in-loop-at

@@ -116,7 +116,7 @@ overflow_add-result-then-stands_at-3 c =
 pub returns-then-stands_at-3 : goal.returns-then-stands_at-3
 unfolding worded_at bytes
 returns-then-stands_at-3 c =
-            rw (no_lt-at-Then-stands_at-3 c, no-gt c, is-amp c)
+    rw (no_lt-at-Then-stands_at-3 c, no-gt c, is-amp c)
 
 pub overflow_add-result-then-stands_at-4 : goal.overflow_add-result-then-stands_at-4
 overflow_add-result-then-stands_at-4 c =
@@ -127,7 +127,7 @@ overflow_add-result-then-stands_at-4 c =
 pub returns-then-stands_at-4 : goal.returns-then-stands_at-4
 unfolding worded_at bytes
 returns-then-stands_at-4 c =
-                rw (no_lt-at-Then-stands_at-4 c, no-gt-at-Then-stands_at-4 c, no-amp c, is-quot c)
+    rw (no_lt-at-Then-stands_at-4 c, no-gt-at-Then-stands_at-4 c, no-amp c, is-quot c)
 
 pub overflow_add-result-then-stands_at-5 : goal.overflow_add-result-then-stands_at-5
 overflow_add-result-then-stands_at-5 c =
@@ -138,9 +138,9 @@ overflow_add-result-then-stands_at-5 c =
 pub returns-then-stands_at-5 : goal.returns-then-stands_at-5
 unfolding worded_at bytes
 returns-then-stands_at-5 c =
-                    rw (no_lt-at-Then-stands_at-5 c, no-gt-at-Then-stands_at-5 c, no-amp-at-Then-stands_at-5 c, no-quot c, is-apos c)
+    rw (no_lt-at-Then-stands_at-5 c, no-gt-at-Then-stands_at-5 c, no-amp-at-Then-stands_at-5 c, no-quot c, is-apos c)
 
 pub returns : goal.returns
 unfolding worded_at bytes
 returns c =
-                    rw (no_lt-at-Else-stands_at-5 c, no-gt-at-Else-stands_at-5 c, no-amp-at-Else-stands_at-5 c, no-quot-at-Else-stands_at-5 c, no-apos c)
+    rw (no_lt-at-Else-stands_at-5 c, no-gt-at-Else-stands_at-5 c, no-amp-at-Else-stands_at-5 c, no-quot-at-Else-stands_at-5 c, no-apos c)

@@ -16,7 +16,7 @@ pub returns-in_default-m : goal.returns-in_default-m
 unfolding before_root led reached
 returns-in_default-m c =
     let a = c.args in
-        let d : declaration_at a.s.now a.at ≡ At c.in-At.a = sym c.declaration-d.ensures ∙ c.in-At.is in
+    let d : declaration_at a.s.now a.at ≡ At c.in-At.a = sym c.declaration-d.ensures ∙ c.in-At.is in
     let m : misc_at a.s.now c.in-At.a ≡ No = sym c.misc-m.ensures ∙ c.in_default-m.is in
     rw (d, m)
 
@@ -24,6 +24,6 @@ pub returns : goal.returns
 unfolding before_root led reached
 returns c =
     let a = c.args in
-        let d : declaration_at a.s.now a.at ≡ At c.in-At.a = sym c.declaration-d.ensures ∙ c.in-At.is in
+    let d : declaration_at a.s.now a.at ≡ At c.in-At.a = sym c.declaration-d.ensures ∙ c.in-At.is in
     let m : misc_at a.s.now c.in-At.a ≡ At c.in-At-m.i = sym c.misc-m.ensures ∙ c.in-At-m.is in
     rw (d, m)

@@ -34,7 +34,7 @@ value_of-at-Then-not-equal_any_case c = let a = c.args in value_at a.s.now a.val
 behind : (c : goal.Then-not-equal_any_case) (b d : Bool) → same (map small (name_of-at-Then-not-equal_any_case c)) (bytes "layer:aea:2.0:broadcasttext") ≡ b → same (value_of-at-Then-not-equal_any_case c) [] ≡ d → 3 + pick (b && not d) 0 1 ≡ parameter_row read_parameters (name_of-at-Then-not-equal_any_case c) (value_of-at-Then-not-equal_any_case c)
 unfolding bytes words_of
 behind c b d p q =
-        let at = subst (λ (k : ℕ). 3 ≤ k) c.which_value-k.ensures c.if-k-lt-BROADCAST_TEXT.false in
+    let at = subst (λ (k : ℕ). 3 ≤ k) c.which_value-k.ensures c.if-k-lt-BROADCAST_TEXT.false in
     sym (ap (λ (k : ℕ). 3 + k) (broadcast-row (name_of-at-Then-not-equal_any_case c) (value_of-at-Then-not-equal_any_case c) b d p q)) ∙ behind-exact (name_of-at-Then-not-equal_any_case c) (value_of-at-Then-not-equal_any_case c) exact (broadcast_text ∷ []) at
 
 -- the name and the value
@@ -48,7 +48,7 @@ value_of-at-Then-is_empty c = let a = c.args in value_at a.s.now a.value
 behind-at-Then-is_empty : (c : goal.Then-is_empty) (b d : Bool) → same (map small (name_of-at-Then-is_empty c)) (bytes "layer:aea:2.0:broadcasttext") ≡ b → same (value_of-at-Then-is_empty c) [] ≡ d → 3 + pick (b && not d) 0 1 ≡ parameter_row read_parameters (name_of-at-Then-is_empty c) (value_of-at-Then-is_empty c)
 unfolding bytes words_of
 behind-at-Then-is_empty c b d p q =
-        let at = subst (λ (k : ℕ). 3 ≤ k) c.which_value-k.ensures c.if-k-lt-BROADCAST_TEXT.false in
+    let at = subst (λ (k : ℕ). 3 ≤ k) c.which_value-k.ensures c.if-k-lt-BROADCAST_TEXT.false in
     sym (ap (λ (k : ℕ). 3 + k) (broadcast-row (name_of-at-Then-is_empty c) (value_of-at-Then-is_empty c) b d p q)) ∙ behind-exact (name_of-at-Then-is_empty c) (value_of-at-Then-is_empty c) exact (broadcast_text ∷ []) at
 
 -- the name is the one of any letter case
@@ -67,7 +67,7 @@ value_of-at-Else-is_empty c = let a = c.args in value_at a.s.now a.value
 behind-at-Else-is_empty : (c : goal.Else-is_empty) (b d : Bool) → same (map small (name_of-at-Else-is_empty c)) (bytes "layer:aea:2.0:broadcasttext") ≡ b → same (value_of-at-Else-is_empty c) [] ≡ d → 3 + pick (b && not d) 0 1 ≡ parameter_row read_parameters (name_of-at-Else-is_empty c) (value_of-at-Else-is_empty c)
 unfolding bytes words_of
 behind-at-Else-is_empty c b d p q =
-        let at = subst (λ (k : ℕ). 3 ≤ k) c.which_value-k.ensures c.if-k-lt-BROADCAST_TEXT.false in
+    let at = subst (λ (k : ℕ). 3 ≤ k) c.which_value-k.ensures c.if-k-lt-BROADCAST_TEXT.false in
     sym (ap (λ (k : ℕ). 3 + k) (broadcast-row (name_of-at-Else-is_empty c) (value_of-at-Else-is_empty c) b d p q)) ∙ behind-exact (name_of-at-Else-is_empty c) (value_of-at-Else-is_empty c) exact (broadcast_text ∷ []) at
 
 -- the name is the one of any letter case
@@ -78,7 +78,7 @@ named-at-Else-is_empty c = sym c.equal_any_case.ensures ∙ c.if-not-equal_any_c
 pub returns-then-k-lt-BROADCAST_TEXT : goal.returns-then-k-lt-BROADCAST_TEXT
 unfolding bytes words_of
 returns-then-k-lt-BROADCAST_TEXT c =
-        c.which_value-k.ensures ∙ exact-row (name_of c) (value_of c) exact (broadcast_text ∷ []) (subst (λ (k : ℕ). k < 3) c.which_value-k.ensures c.if-k-lt-BROADCAST_TEXT.true)
+    c.which_value-k.ensures ∙ exact-row (name_of c) (value_of c) exact (broadcast_text ∷ []) (subst (λ (k : ℕ). k < 3) c.which_value-k.ensures c.if-k-lt-BROADCAST_TEXT.true)
 
 pub returns-then-not-equal_any_case : goal.returns-then-not-equal_any_case
 unfolding bytes
@@ -86,8 +86,8 @@ returns-then-not-equal_any_case c = behind c false _ (sym c.equal_any_case.ensur
 
 pub returns-then-is_empty : goal.returns-then-is_empty
 returns-then-is_empty c =
-        behind-at-Then-is_empty c true true (named c) (sym c.is_empty.ensures ∙ c.if-is_empty.true)
+    behind-at-Then-is_empty c true true (named c) (sym c.is_empty.ensures ∙ c.if-is_empty.true)
 
 pub returns : goal.returns
 returns c =
-        behind-at-Else-is_empty c true false (named-at-Else-is_empty c) (sym c.is_empty.ensures ∙ c.if-is_empty.false)
+    behind-at-Else-is_empty c true false (named-at-Else-is_empty c) (sym c.is_empty.ensures ∙ c.if-is_empty.false)

@@ -1,4 +1,3 @@
-use Prim.Native.Nat.{◌-◌}
 use mathlib.Core.Path.{sym}
 use Rattle.octets.proofs.Everys.{every-on, every-broken, every-ended}
 use Rattle.parts.specs.Parts.{is_zero}

@@ -1,4 +1,3 @@
-use Prim.Native.Nat.{◌-◌}
 use mathlib.Core.Path.{◌∙◌}
 use native.Mathlib.Nat.{zero-add}
 use Rattle.fields.proofs.Partings.{first-here, first_on, first-none}

@@ -17,5 +17,5 @@ returns-then-not-is_dated c = sym (one-fails 1 (aired_tests c.args.r.now) (sym c
 pub returns : goal.returns
 unfolding key aired_in behind
 returns c =
-            c.are_zeros-2.ensures
+    c.are_zeros-2.ensures
     ∙ sym (last-decides (_ ∷ _ ∷ []) _ (sym c.are_zeros.ensures ∙ c.if-not-are_zeros.false, (sym c.is_dated.ensures ∙ c.if-not-is_dated.false, tt)))

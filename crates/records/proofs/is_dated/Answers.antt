@@ -18,4 +18,4 @@ returns-then-year-gt2099 c = sym (year-out _ _ c.year_in-year.ensures (above-bet
 pub returns : goal.returns
 unfolding header_of
 returns c =
-                    day-decides c.args.g.now _ c.header_in-read.ensures c.if-read-ne0.false _ c.year_in-year.ensures c.if-year-lt2000.false c.if-year-gt2099.false _ c.has_day.ensures
+    day-decides c.args.g.now _ c.header_in-read.ensures c.if-read-ne0.false _ c.year_in-year.ensures c.if-year-lt2000.false c.if-year-gt2099.false _ c.has_day.ensures

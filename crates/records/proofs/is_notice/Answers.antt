@@ -39,7 +39,7 @@ returns-then-not-is_key c = sym (one-fails 0 (notice_tests (said c)) (sym c.is_k
 pub is_header_of-requires : goal.is_header_of-requires
 unfolding key
 is_header_of-requires c =
-        rw c.sent_of.ensures (key-low _ (sym c.is_key.ensures ∙ c.if-not-is_key.false))
+    rw c.sent_of.ensures (key-low _ (sym c.is_key.ensures ∙ c.if-not-is_key.false))
 
 pub returns-then-not-is_header_of : goal.returns-then-not-is_header_of
 unfolding key header
@@ -50,7 +50,7 @@ returns-then-not-is_header_of c =
 pub returns : goal.returns
 unfolding key header rest
 returns c =
-            let r = said-at-After-are_zeros c in
+    let r = said-at-After-are_zeros c in
     let h = each_of (_ ∷ _ ∷ []) (sym (headed-at-After-are_zeros c) ∙ c.if-not-is_header_of.false) in
     c.are_zeros.ensures
     ∙ sym (last-decides (key_ok (key r) ∷ header_ok (header r) ∷ same (stamp_in (header r)) (stamped (sent_in (key r))) ∷ []) (zeros (rest r))

@@ -18,7 +18,7 @@ returns-then-b-on-2 c = sym (one-fails 1 (on c.args.b c.args.sent) (ne_eqb _ _ (
 
 pub returns : goal.returns
 returns c =
-                    let a = c.args in
+    let a = c.args in
     ap (λ (s : Stamp). eqb a.b.minute s.minute) c.stamp_of-on.ensures
     ∙ sym (last-decides (eqb a.b.day (stamp_of a.sent).day ∷ eqb a.b.hour (stamp_of a.sent).hour ∷ []) _
     (eq-eqb _ _ (c.if-b-on.false ∙ ap (λ (s : Stamp). s.day) c.stamp_of-on.ensures), (eq-eqb _ _ (c.if-b-on-2.false ∙ ap (λ (s : Stamp). s.hour) c.stamp_of-on.ensures), tt)))

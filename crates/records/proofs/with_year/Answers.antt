@@ -8,5 +8,5 @@ use Rattle.records.proofs.with_year.Goals as goal
 
 pub returns : goal.returns
 returns c =
-                        let year = c.utc_year.ensures ∙ ap (λ (n : ℕ). (stamp_of n).year) c.sent_of.ensures in
+    let year = c.utc_year.ensures ∙ ap (λ (n : ℕ). (stamp_of n).year) c.sent_of.ensures in
     dated-made _ _ _ _ _ c.requires.1 (c.two_bytes-year.ensures ∙ ap (λ (n : ℕ). be2 n) year) c.put_bytes.ensures c.put_bytes-2.ensures

@@ -89,7 +89,7 @@ uri-front-at-After-text-3-1 c = front-put (replicate {A = ℕ} 1024 0) _ (both-f
 -- ---- the lines as they are asked for
 abbrev asked : goal.After-text-3-1 → List ℕ
 asked c =
-            lines_of c.header-headed.result.number c.header-headed.result.field (take c.header-headed.result.header c.header-headed.new.out) c.text-worded.result.audio (take c.text-worded.result.uri c.text-worded.new.uri) c.header-headed.result.carry (take c.text-worded.result.text c.text-worded.new.text)
+    lines_of c.header-headed.result.number c.header-headed.result.field (take c.header-headed.result.header c.header-headed.new.out) c.text-worded.result.audio (take c.text-worded.result.uri c.text-worded.new.uri) c.header-headed.result.carry (take c.text-worded.result.text c.text-worded.new.text)
 
 asked_is : (c : goal.After-text-3-1) → asked c ≡ printed (outcome-at-After-text-3-1 c)
 asked_is c = lines-printed (outcome-at-After-text-3-1 c) c.header-headed.result c.text-worded.result (header-answered-at-After-text-3-1 c) (text-answered-at-After-text-3-1 c) (header-front-at-After-text-3-1 c).is (uri-front-at-After-text-3-1 c).is (text-front-at-After-text-3-1 c).is
@@ -100,7 +100,7 @@ asked-le c = rw (asked_is c) (printed-le _)
 -- ---- the lines as they are asked for
 abbrev asked-at-After-slice_known-2-1 : goal.After-slice_known-2-1 → List ℕ
 asked-at-After-slice_known-2-1 c =
-            lines_of c.header-headed.result.number c.header-headed.result.field (take c.header-headed.result.header c.header-headed.new.out) c.text-worded.result.audio (take c.text-worded.result.uri c.text-worded.new.uri) c.header-headed.result.carry (take c.text-worded.result.text c.text-worded.new.text)
+    lines_of c.header-headed.result.number c.header-headed.result.field (take c.header-headed.result.header c.header-headed.new.out) c.text-worded.result.audio (take c.text-worded.result.uri c.text-worded.new.uri) c.header-headed.result.carry (take c.text-worded.result.text c.text-worded.new.text)
 
 abbrev outcome-at-After-slice_known-2-1 : goal.After-slice_known-2-1 → BothOutcomes
 outcome-at-After-slice_known-2-1 c = bench_of c.args.message.now
@@ -151,7 +151,7 @@ slice_bounds-put_lines-end-3 c = (text-front-at-After-text-3-1 c).long
 
 pub put_lines-requires : goal.put_lines-requires
 put_lines-requires c =
-            omega (arith, asked-le c, c.if-out-lt-ROOM.false)
+    omega (arith, asked-le c, c.if-out-lt-ROOM.false)
 
 pub returns : goal.returns
 returns c = let both = put-start (first c.args.out.now 0 (asked-at-After-slice_known-2-1 c) (omega (arith, c.put_lines.ensures.value), c.put_lines.ensures.out_after)) _ (program-lines _ _ c.if-out-lt-ROOM.false ∙ sym (asked_is-at-After-slice_known-2-1 c)) in record { value = both.0; out_after = both.1 }

@@ -12,7 +12,7 @@ use Rattle.report.proofs.put_audio_words.Goals as goal
 pub put_spaced-requires : goal.put_spaced-requires
 unfolding audio_words bytes
 put_spaced-requires c =
-            omega (arith, ap (λ (k : ℕ). length (audio_words k c.args.uri.now)) c.if-audio-eq1.true, c.requires)
+    omega (arith, ap (λ (k : ℕ). length (audio_words k c.args.uri.now)) c.if-audio-eq1.true, c.requires)
 
 pub returns-then-audio-eq1 : goal.returns-then-audio-eq1
 unfolding audio_words bytes
@@ -21,7 +21,7 @@ returns-then-audio-eq1 c = let both = put_all (first c.args.out.now c.args.at (k
 pub put_spaced-requires-then-audio-eq2 : goal.put_spaced-requires-then-audio-eq2
 unfolding audio_words bytes
 put_spaced-requires-then-audio-eq2 c =
-            omega (arith, ap (λ (k : ℕ). length (audio_words k c.args.uri.now)) c.if-audio-eq2.true, c.requires)
+    omega (arith, ap (λ (k : ℕ). length (audio_words k c.args.uri.now)) c.if-audio-eq2.true, c.requires)
 
 pub returns-then-audio-eq2 : goal.returns-then-audio-eq2
 unfolding audio_words bytes
@@ -30,7 +30,7 @@ returns-then-audio-eq2 c = let both = put_all (first c.args.out.now c.args.at (k
 pub put_spaced-requires-then-audio-eq3 : goal.put_spaced-requires-then-audio-eq3
 unfolding audio_words bytes
 put_spaced-requires-then-audio-eq3 c =
-            omega (arith, ap (λ (k : ℕ). length (audio_words k c.args.uri.now)) c.if-audio-eq3.true, c.requires)
+    omega (arith, ap (λ (k : ℕ). length (audio_words k c.args.uri.now)) c.if-audio-eq3.true, c.requires)
 
 pub returns-then-audio-eq3 : goal.returns-then-audio-eq3
 unfolding audio_words bytes
@@ -39,7 +39,7 @@ returns-then-audio-eq3 c = let both = put_all (first c.args.out.now c.args.at (k
 pub put-requires : goal.put-requires
 unfolding bytes
 put-requires c =
-                    omega (arith, ap length (audio-none c.args.audio c.args.uri.now c.if-audio-eq1.false c.if-audio-eq2.false c.if-audio-eq3.false), c.requires)
+    omega (arith, ap length (audio-none c.args.audio c.args.uri.now c.if-audio-eq1.false c.if-audio-eq2.false c.if-audio-eq3.false), c.requires)
 
 pub returns : goal.returns
 unfolding bytes

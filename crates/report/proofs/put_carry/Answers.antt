@@ -11,7 +11,7 @@ use Rattle.report.proofs.put_carry.Goals as goal
 pub put-requires : goal.put-requires
 unfolding carry_line line bytes
 put-requires c =
-        omega (arith, ap length (ap carry_line c.if-carry.true), c.requires)
+    omega (arith, ap length (ap carry_line c.if-carry.true), c.requires)
 
 pub returns-then-carry : goal.returns-then-carry
 unfolding carry_line line bytes
@@ -20,7 +20,7 @@ returns-then-carry c = let both = put_all (first c.args.out.now c.args.at (carry
 pub put-requires-2 : goal.put-requires-2
 unfolding carry_line line bytes
 put-requires-2 c =
-        omega (arith, ap length (ap carry_line c.if-carry.false), c.requires)
+    omega (arith, ap length (ap carry_line c.if-carry.false), c.requires)
 
 pub returns : goal.returns
 unfolding carry_line line bytes

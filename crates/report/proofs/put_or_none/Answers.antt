@@ -10,7 +10,7 @@ use Rattle.report.proofs.put_or_none.Goals as goal
 pub put-requires : goal.put-requires
 unfolding bytes
 put-requires c =
-            omega (arith, ap length (or-none c.args.v.now c.if-v-eq0.true), c.requires)
+    omega (arith, ap length (or-none c.args.v.now c.if-v-eq0.true), c.requires)
 
 pub returns-then-v-eq0 : goal.returns-then-v-eq0
 unfolding bytes
@@ -18,7 +18,7 @@ returns-then-v-eq0 c = let both = put_all (first c.args.out.now c.args.at (bytes
 
 pub put-requires-2 : goal.put-requires-2
 put-requires-2 c =
-            omega (arith, ap length (or-itself c.args.v.now c.if-v-eq0.false), c.requires)
+    omega (arith, ap length (or-itself c.args.v.now c.if-v-eq0.false), c.requires)
 
 pub returns : goal.returns
 returns c = let both = put_all (first c.args.out.now c.args.at c.args.v.now (c.put-2.ensures.value, c.put-2.ensures.out_after)) _ (or-itself _ c.if-v-eq0.false) in record { value = both.0; out_after = both.1 }

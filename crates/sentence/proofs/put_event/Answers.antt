@@ -30,7 +30,7 @@ told c = chosen (bytes "event " ++ event c) _ (phrases event_table) (event c) c.
 word-is : (c : goal.After-put-arg-1) → c.word-t.result.now ≡ event_words (event c)
 unfolding bytes words_of
 word-is c =
-        c.word-t.ensures ∙ alike (λ (k : ℕ). get_or (phrases event_table) k []) (said (event c)) 6 refl c.which-k.result c.if-k-lt6.true ∙ told c
+    c.word-t.ensures ∙ alike (λ (k : ℕ). get_or (phrases event_table) k []) (said (event c)) 6 refl c.which-k.result c.if-k-lt6.true ∙ told c
 
 abbrev event-at-After-slice_known-then-k-lt6-1 : goal.After-slice_known-then-k-lt6-1 → List ℕ
 event-at-After-slice_known-then-k-lt6-1 c = c.args.e.now
@@ -42,7 +42,7 @@ told-at-After-slice_known-then-k-lt6-1 c = chosen (bytes "event " ++ event-at-Af
 word-is-at-After-slice_known-then-k-lt6-1 : (c : goal.After-slice_known-then-k-lt6-1) → c.word-t.result.now ≡ event_words (event-at-After-slice_known-then-k-lt6-1 c)
 unfolding bytes words_of
 word-is-at-After-slice_known-then-k-lt6-1 c =
-        c.word-t.ensures ∙ alike (λ (k : ℕ). get_or (phrases event_table) k []) (said (event-at-After-slice_known-then-k-lt6-1 c)) 6 refl c.which-k.result c.if-k-lt6.true ∙ told-at-After-slice_known-then-k-lt6-1 c
+    c.word-t.ensures ∙ alike (λ (k : ℕ). get_or (phrases event_table) k []) (said (event-at-After-slice_known-then-k-lt6-1 c)) 6 refl c.which-k.result c.if-k-lt6.true ∙ told-at-After-slice_known-then-k-lt6-1 c
 
 abbrev event-at-After-slice_known-3-1 : goal.After-slice_known-3-1 → List ℕ
 event-at-After-slice_known-3-1 c = c.args.e.now
@@ -53,7 +53,7 @@ told-at-After-slice_known-3-1 c = chosen (bytes "event " ++ event-at-After-slice
 
 pub put-requires : goal.put-requires
 put-requires c =
-        omega (arith, ap length (word-is c), event-le c.args.e.now c.requires.e_len)
+    omega (arith, ap length (word-is c), event-le c.args.e.now c.requires.e_len)
 
 pub returns-then-k-lt6 : goal.returns-then-k-lt6
 returns-then-k-lt6 c = let both = put_all (first c.args.out.now c.args.at c.word-t.result.now (c.put.ensures.value, c.put.ensures.out_after)) _ (sym (word-is-at-After-slice_known-then-k-lt6-1 c)) in record { value = both.0; out_after = both.1 }
@@ -61,4 +61,4 @@ returns-then-k-lt6 c = let both = put_all (first c.args.out.now c.args.at c.word
 pub returns : goal.returns
 unfolding bytes
 returns c =
-                let one = first c.args.out.now c.args.at (bytes "event ") (c.put-n.ensures.value, c.put-n.ensures.out_after) in let both = put_all (next one c.args.e.now (c.put-2.ensures.value, c.put-2.ensures.out_after)) _ (sym (told-at-After-slice_known-3-1 c) ∙ get_or-eq_default (phrases event_table) (bytes "event " ++ c.args.e.now) c.if-k-lt6.false) in record { value = both.0; out_after = both.1 }
+    let one = first c.args.out.now c.args.at (bytes "event ") (c.put-n.ensures.value, c.put-n.ensures.out_after) in let both = put_all (next one c.args.e.now (c.put-2.ensures.value, c.put-2.ensures.out_after)) _ (sym (told-at-After-slice_known-3-1 c) ∙ get_or-eq_default (phrases event_table) (bytes "event " ++ c.args.e.now) c.if-k-lt6.false) in record { value = both.0; out_after = both.1 }

@@ -18,14 +18,14 @@ begins-at-After-slice_known-3-1 c = joined-first c.args.list.now c.args.n c.requ
 
 pub put_location-e-requires : goal.put_location-e-requires
 put_location-e-requires c =
-        let s = begins c in
+    let s = begins c in
     omega (arith, ap length s, length-append (location_word (get_or c.args.list.now 0 0)) (others (drop 1 (take c.args.n c.args.list.now))), c.requires.list_in_bounds)
 
 pub put_others-requires : goal.put_others-requires
 put_others-requires c =
-            let s = begins-at-After-put_others-arg-1 c in
+    let s = begins-at-After-put_others-arg-1 c in
     record { n_in_bounds = c.requires.le_n.1; list_in_bounds = omega (arith, ap length s, length-append (location_word (get_or c.args.list.now 0 0)) (others (drop 1 (take c.args.n c.args.list.now))), c.requires.list_in_bounds, c.put_location-e.ensures.value, c.put_location-e.auto.out) }
 
 pub returns : goal.returns
 returns c =
-            let one = first c.args.out.now c.args.at (location_word (get_or c.args.list.now 0 0)) (c.put_location-e.ensures.value, c.put_location-e.ensures.out_after) in let both = put_all (next one (others (drop 1 (take c.args.n c.args.list.now))) (c.put_others.ensures.value, c.put_others.ensures.out_after)) _ (begins-at-After-slice_known-3-1 c) in record { value = both.0; out_after = both.1 }
+    let one = first c.args.out.now c.args.at (location_word (get_or c.args.list.now 0 0)) (c.put_location-e.ensures.value, c.put_location-e.ensures.out_after) in let both = put_all (next one (others (drop 1 (take c.args.n c.args.list.now))) (c.put_others.ensures.value, c.put_others.ensures.out_after)) _ (begins-at-After-slice_known-3-1 c) in record { value = both.0; out_after = both.1 }

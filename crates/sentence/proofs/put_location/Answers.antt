@@ -11,4 +11,4 @@ put_number-requires c = omega (arith, length_digits 6 c.args.v)
 pub returns : goal.returns
 unfolding location_word
 returns c =
-        record { value = omega (arith, length_digits 6 c.args.v); out_after = c.put_number.ensures }
+    record { value = omega (arith, length_digits 6 c.args.v); out_after = c.put_number.ensures }

@@ -6,4 +6,4 @@ use Rattle.sentence.proofs.put_numbered.Goals as goal
 
 pub returns : goal.returns
 returns c =
-            record { value = omega arith; out_after = behind c.args.out.now c.args.at c.args.t.now (digits c.args.n c.args.v) c.put-e.ensures.out_after c.put-e.ensures.value c.put_number.ensures }
+    record { value = omega arith; out_after = behind c.args.out.now c.args.at c.args.t.now (digits c.args.n c.args.v) c.put-e.ensures.out_after c.put-e.ensures.value c.put_number.ensures }

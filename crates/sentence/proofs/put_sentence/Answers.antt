@@ -42,14 +42,14 @@ listed-at-After-slice_known-4-1 c = take c.args.b.count c.args.b.locations
 
 pub put_joined-y-requires : goal.put_joined-y-requires
 put_joined-y-requires c =
-            record { le_n = (c.requires.le_count.0, omega (arith, list-long c, c.requires.le_count.1)); list_in_bounds = omega (arith, who-room c, where-room c, c.requires.at_in_bounds, c.put_who-x.ensures.value, c.put_who-x.auto.out) }
+    record { le_n = (c.requires.le_count.0, omega (arith, list-long c, c.requires.le_count.1)); list_in_bounds = omega (arith, who-room c, where-room c, c.requires.at_in_bounds, c.put_who-x.ensures.value, c.put_who-x.auto.out) }
 
 pub put_when-requires : goal.put_when-requires
 put_when-requires c =
-                omega (arith, who-room-at-After-put_when-arg-1 c, where-room-at-After-put_when-arg-1 c, c.requires.at_in_bounds, c.put_who-x.ensures.value, c.put_who-x.auto.out, c.put_joined-y.ensures.value, c.put_joined-y.auto.out)
+    omega (arith, who-room-at-After-put_when-arg-1 c, where-room-at-After-put_when-arg-1 c, c.requires.at_in_bounds, c.put_who-x.ensures.value, c.put_who-x.auto.out, c.put_joined-y.ensures.value, c.put_joined-y.auto.out)
 
 pub returns : goal.returns
 unfolding sentence_of
 returns c =
-                let one = first c.args.out.now c.args.at (who_words c.args.b.originator c.args.b.event) (c.put_who-x.ensures.value, c.put_who-x.ensures.out_after) in
+    let one = first c.args.out.now c.args.at (who_words c.args.b.originator c.args.b.event) (c.put_who-x.ensures.value, c.put_who-x.ensures.out_after) in
     let two = next one (location_words (listed-at-After-slice_known-4-1 c)) (c.put_joined-y.ensures.value, c.put_joined-y.ensures.out_after) in let both = put_all (next two (when_words c.args.b.period c.args.b.day c.args.b.hour c.args.b.minute) (c.put_when.ensures.value, c.put_when.ensures.out_after)) _ refl in record { value = both.0; out_after = both.1 }

@@ -8,7 +8,7 @@ use Rattle.sentence.proofs.put_when.Goals as goal
 pub returns : goal.returns
 unfolding bytes
 returns c =
-                            let hour = next-number (begin c.args.out.now c.args.at) (bytes ", valid from ") 2 c.args.hour (c.put_numbered-a.ensures.value, c.put_numbered-a.ensures.out_after) in
+    let hour = next-number (begin c.args.out.now c.args.at) (bytes ", valid from ") 2 c.args.hour (c.put_numbered-a.ensures.value, c.put_numbered-a.ensures.out_after) in
     let minute = next-number hour (bytes ":") 2 c.args.minute (c.put_numbered-b.ensures.value, c.put_numbered-b.ensures.out_after) in
     let day = next-number minute (bytes " UTC on day ") 3 c.args.day (c.put_numbered-c.ensures.value, c.put_numbered-c.ensures.out_after) in
     let hours = next-number day (bytes " for ") 2 (c.args.period / 60) (c.put_numbered-d.ensures.value, c.put_numbered-d.ensures.out_after) in

@@ -50,7 +50,7 @@ shift-requires c = (omega (arith, within-at-After-shift-arg-1 c), omega (arith, 
 
 pub put_bytes-requires : goal.put_bytes-requires
 put_bytes-requires c =
-        omega (arith, within-at-After-put_bytes-arg-1 c, room-at-After-put_bytes-arg-1 c, c.requires.2, c.shift.auto.s)
+    omega (arith, within-at-After-put_bytes-arg-1 c, room-at-After-put_bytes-arg-1 c, c.requires.2, c.shift.auto.s)
 
 pub returns-in-Held : goal.returns-in-Held
 returns-in-Held c =
@@ -60,4 +60,4 @@ returns-in-Held c =
 
 pub returns-in-New : goal.returns-in-New
 returns-in-New c =
-        let s = c.args in record { value = new-count s.s.now s.r.now s.n c.in-New.k (at_new-at-After-slice_known-in-New-2-1 c); s_after = new-bytes s.s.now s.r.now s.n c.in-New.k (at_new-at-After-slice_known-in-New-2-1 c) _ _ (room-at-After-slice_known-in-New-2-1 c) c.requires.2 c.shift.auto.s c.shift.ensures c.put_bytes.ensures }
+    let s = c.args in record { value = new-count s.s.now s.r.now s.n c.in-New.k (at_new-at-After-slice_known-in-New-2-1 c); s_after = new-bytes s.s.now s.r.now s.n c.in-New.k (at_new-at-After-slice_known-in-New-2-1 c) _ _ (room-at-After-slice_known-in-New-2-1 c) c.requires.2 c.shift.auto.s c.shift.ensures c.put_bytes.ensures }

@@ -17,21 +17,21 @@ module _
     (asked : (n * 384 ≤ length s₀) × (m * 384 ≤ length batch) × (length (insert_all (recs m batch) (recs n s₀)) * 384 ≤ length s₀))
     (held : (i ≤ m) × (length s ≡ length s₀) × (k ≡ length (insert_all (recs i batch) (recs n s₀))) × (s ≡ flat (insert_all (recs i batch) (recs n s₀)) ++ drop (k * 384) s₀))
     (more : i < m)
-    where
-  fits : i * 384 ≤ length batch
-  fits = omega (arith, asked.1, more)
+  where
+    fits : i * 384 ≤ length batch
+    fits = omega (arith, asked.1, more)
 
-  step : (r : List ℕ) → r ≡ rec i batch → insert r (recs k s) ≡ insert_all (recs (i + 1) batch) (recs n s₀)
-  step r e = ap (λ (x : List ℕ). insert x (recs k s)) e ∙ next-insert s₀ batch s n i k asked.0 fits held.3 held.2
+    step : (r : List ℕ) → r ≡ rec i batch → insert r (recs k s) ≡ insert_all (recs (i + 1) batch) (recs n s₀)
+    step r e = ap (λ (x : List ℕ). insert x (recs k s)) e ∙ next-insert s₀ batch s n i k asked.0 fits held.3 held.2
 
-  rest : (j : ℕ) → k ≤ j → drop (j * 384) s ≡ drop (j * 384) s₀
-  rest j h = next-rest s₀ batch s n i k asked.0 fits held.3 held.2 j h
+    rest : (j : ℕ) → k ≤ j → drop (j * 384) s ≡ drop (j * 384) s₀
+    rest j h = next-rest s₀ batch s n i k asked.0 fits held.3 held.2 j h
 
-  grown : (k ≤ length (insert_all (recs (i + 1) batch) (recs n s₀))) × (length (insert_all (recs (i + 1) batch) (recs n s₀)) * 384 ≤ length s₀)
-  grown = (
-    omega (arith, held.2, batch-grows i (i + 1) batch (recs n s₀) (omega arith)),
-    omega (arith, asked.2, batch-grows (i + 1) m batch (recs n s₀) (omega (arith, more))),
-  )
+    grown : (k ≤ length (insert_all (recs (i + 1) batch) (recs n s₀))) × (length (insert_all (recs (i + 1) batch) (recs n s₀)) * 384 ≤ length s₀)
+    grown = (
+      omega (arith, held.2, batch-grows i (i + 1) batch (recs n s₀) (omega arith)),
+      omega (arith, asked.2, batch-grows (i + 1) m batch (recs n s₀) (omega (arith, more))),
+    )
 
 pub loop-i-init : goal.loop-i-init
 loop-i-init c =
@@ -40,15 +40,15 @@ loop-i-init c =
 
 pub add-k-requires : goal.add-k-requires
 add-k-requires c =
-        let l = c.loop-i in
+    let l = c.loop-i in
     let a = c.args in
-        (omega (arith, grown a.s.now a.batch.now l.s a.n a.m l.i l.k c.requires l.invariant c.loop-i-test.true, l.invariant.1, l.invariant.2), rw (step a.s.now a.batch.now l.s a.n a.m l.i l.k c.requires l.invariant c.loop-i-test.true _ c.record_at.ensures) (omega (arith, grown a.s.now a.batch.now l.s a.n a.m l.i l.k c.requires l.invariant c.loop-i-test.true, l.invariant.1)), ap length c.record_at.ensures ∙ length-take-le 384 (drop (l.i * 384) a.batch.now) (rw length-drop (omega arith)))
+    (omega (arith, grown a.s.now a.batch.now l.s a.n a.m l.i l.k c.requires l.invariant c.loop-i-test.true, l.invariant.1, l.invariant.2), rw (step a.s.now a.batch.now l.s a.n a.m l.i l.k c.requires l.invariant c.loop-i-test.true _ c.record_at.ensures) (omega (arith, grown a.s.now a.batch.now l.s a.n a.m l.i l.k c.requires l.invariant c.loop-i-test.true, l.invariant.1)), ap length c.record_at.ensures ∙ length-take-le 384 (drop (l.i * 384) a.batch.now) (rw length-drop (omega arith)))
 
 pub loop-i-preserved : goal.loop-i-preserved
 loop-i-preserved c =
-        let l = c.loop-i in
+    let l = c.loop-i in
     let a = c.args in
-        let is = step a.s.now a.batch.now l.s a.n a.m l.i l.k c.requires l.invariant c.loop-i-test.true _ c.record_at.ensures in
+    let is = step a.s.now a.batch.now l.s a.n a.m l.i l.k c.requires l.invariant c.loop-i-test.true _ c.record_at.ensures in
     let count = c.add-k.ensures.value ∙ ap length is in (
       omega arith,
       c.add-k.auto.s ∙ l.invariant.1,

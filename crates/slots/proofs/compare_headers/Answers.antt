@@ -14,13 +14,13 @@ use Rattle.slots.proofs.compare_headers.Goals as goal
 
 decided : (c : goal.In-Less) (o : Order) → (o ≡ Same → ⊥) → c.compare.result ≡ o → let a = c.args in o ≡ cmp (carried (rec a.i a.s.now)) (carried (rec a.j a.s.now))
 decided c o d e =
-        let a = c.args in
+    let a = c.args in
     sym (fronts-decide (rec a.i a.s.now) (rec a.j a.s.now) (rec-long a.s.now a.i c.requires.0) (rec-long a.s.now a.j c.requires.1) o d
     (ap₂ cmp (sym c.front_at.ensures) (sym c.front_at-2.ensures) ∙ sym c.compare.ensures ∙ e))
 
 decided-at-In-More : (c : goal.In-More) (o : Order) → (o ≡ Same → ⊥) → c.compare.result ≡ o → let a = c.args in o ≡ cmp (carried (rec a.i a.s.now)) (carried (rec a.j a.s.now))
 decided-at-In-More c o d e =
-        let a = c.args in
+    let a = c.args in
     sym (fronts-decide (rec a.i a.s.now) (rec a.j a.s.now) (rec-long a.s.now a.i c.requires.0) (rec-long a.s.now a.j c.requires.1) o d
     (ap₂ cmp (sym c.front_at.ensures) (sym c.front_at-2.ensures) ∙ sym c.compare.ensures ∙ e))
 

@@ -1,4 +1,4 @@
-use Prim.Native.Nat.{◌+◌, ◌-◌}
+use Prim.Native.Nat.{◌+◌}
 use mathlib.Core.Path.{◌≡◌}
 use lib.ListN.{drop}
 use Rattle.ledger.specs.Sorted.{has}
@@ -27,7 +27,7 @@ loop-i-preserved c =
     let go = has-at a.r.now a.s.now a.n l.i l.invariant.1 in
     let is = c.compare.ensures ∙ ap (cmp a.r.now) c.record_at.ensures in
     let passed : has a.r.now (recs a.n a.s.now) ≡ has a.r.now (drop (l.i + 1) (recs a.n a.s.now)) =
-      elim c.match-compare.branch [ in-Less w ↦ go Less (sym w.in-Less.is ∙ is) (omega arith) | in-More w ↦ go More (sym w.in-More.is ∙ is) (omega arith) ] in
+    elim c.match-compare.branch [ in-Less w ↦ go Less (sym w.in-Less.is ∙ is) (omega arith) | in-More w ↦ go More (sym w.in-More.is ∙ is) (omega arith) ] in
     (omega arith, passed)
 
 pub returns : goal.returns

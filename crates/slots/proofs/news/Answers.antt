@@ -23,17 +23,20 @@ is-at-Else-holds-2 c l = ap (λ (r : List ℕ). has r l) c.record_at-r.ensures
 
 pub returns-then-holds : goal.returns-then-holds
 returns-then-holds c =
-        let a = c.args in
+    let a = c.args in
     record { s_value = old-count a.s.now a.batch.now a.n a.i c.requires.2 (on-board a.s.now a.batch.now a.n a.i c.requires.2 (sym c.if-holds.true ∙ c.holds.ensures ∙ is c (recs a.n a.s.now))); upper_bound = search rules }
 
 pub returns-then-holds-2 : goal.returns-then-holds-2
 returns-then-holds-2 c =
-        let a = c.args in
+    let a = c.args in
     record { s_value = old-count a.s.now a.batch.now a.n a.i c.requires.2 (in-batch a.s.now a.batch.now a.n a.i c.requires.2 (sym c.if-holds-2.true ∙ c.holds-2.ensures ∙ is-at-Then-holds-2 c (recs a.i a.batch.now))); upper_bound = search rules }
 
 pub returns : goal.returns
 returns c =
-        let a = c.args in
-    record { s_value = batch-count a.s.now a.batch.now a.n a.i c.requires.2
+    let a = c.args in
+    record {
+      s_value = batch-count a.s.now a.batch.now a.n a.i c.requires.2
           (sym c.if-holds.false ∙ c.holds.ensures ∙ is-at-Else-holds-2 c (recs a.n a.s.now))
-          (sym c.if-holds-2.false ∙ c.holds-2.ensures ∙ is-at-Else-holds-2 c (recs a.i a.batch.now)); upper_bound = search rules }
+          (sym c.if-holds-2.false ∙ c.holds-2.ensures ∙ is-at-Else-holds-2 c (recs a.i a.batch.now));
+      upper_bound = search rules;
+    }

@@ -12,4 +12,4 @@ pack_body-requires c = read-narrow _ c.read_header-r.result c.read_header-r.ensu
 
 pub returns : goal.returns
 returns c =
-        c.pack_body.ensures ∙ read_taken c.read_header-r.result c.if-r-ne0.false ∙ ap packed_read c.read_header-r.ensures
+    c.pack_body.ensures ∙ read_taken c.read_header-r.result c.if-r-ne0.false ∙ ap packed_read c.read_header-r.ensures

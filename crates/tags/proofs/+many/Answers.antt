@@ -1,8 +1,7 @@
-use Prim.Native.Nat.{ℕ, ◌-◌}
+use Prim.Native.Nat.{ℕ}
 use mathlib.Core.Path.{◌≡◌, sym, ◌∙◌}
 use native.Mathlib.Omega.{arith}
 use borrow.Author.Rules.{rules}
-use borrow.Fn.PlainCycle.{is, and}
 use Rattle.pieces.proofs.Walks.{walk-stops, walk-stuck}
 use Rattle.tags.specs.Attributes.{attr_at}
 use Rattle.tags.specs.Tags.{taken, take_at}
@@ -10,10 +9,6 @@ use Rattle.tags.specs.declared.Attr.TheVariants.{Of, Last, None}
 use Rattle.tags.proofs.Goes.{Read, attr-read, take-goes}
 use Rattle.tags.proofs.Trees.{tree-full}
 use Rattle.tags.proofs.Keeps.{kept-starts, kept-moves, met, rest-taken, rest-refused}
-use Rattle.tags.proofs.many.Reads as many
-use Rattle.tags.proofs.+many.Lts-many as many-lts
-use Rattle.tags.proofs.+many.{statement}
-use Rattle.tags.proofs.+many.Tie.{close}
 use Rattle.tags.proofs.+many.Goals as goal
 
 -- the attribute that was read, and that it stays inside
@@ -51,7 +46,7 @@ returns-in-Last t c =
     let s = c.args.s.now in
     let at = c.args.at in
     let r = c.loop-n in
-        let o : attr_at s r.i ≡ Last c.in-Last.k = sym c.attribute-x.ensures ∙ c.in-Last.is in
+    let o : attr_at s r.i ≡ Last c.in-Last.k = sym c.attribute-x.ensures ∙ c.in-Last.is in
     walk-stops (take_at s at) s (take-goes s at) at r.i r.invariant.walking c.in-Last.k (rw o)
 
 pub returns-in-None : goal.returns-in-None

@@ -1,4 +1,3 @@
-use Prim.Native.Nat.{◌-◌}
 use mathlib.Core.Path.{◌≡◌, sym, ◌∙◌}
 use native.Mathlib.Omega.{arith}
 use Rattle.pieces.specs.declared.Step.TheVariants.{Go, Stop, Stuck}
@@ -19,7 +18,7 @@ loop-k-smaller c =
     let s = c.args.s.now in
     let f = look_at s c.args.t.now in
     let goes = look-goes s c.args.t.now in
-        let e : f c.loop-k.i ≡ Go c.in-Go.k = sym c.look-b.ensures ∙ c.in-Go.is in
+    let e : f c.loop-k.i ≡ Go c.in-Go.k = sym c.look-b.ensures ∙ c.in-Go.is in
     let g = step-on f s goes c.args.at c.loop-k.i c.loop-k.invariant c.in-Go.k e in
     omega arith
 
@@ -28,7 +27,7 @@ loop-k-preserved c =
     let s = c.args.s.now in
     let f = look_at s c.args.t.now in
     let goes = look-goes s c.args.t.now in
-        let e : f c.loop-k.i ≡ Go c.in-Go.k = sym c.look-b.ensures ∙ c.in-Go.is in
+    let e : f c.loop-k.i ≡ Go c.in-Go.k = sym c.look-b.ensures ∙ c.in-Go.is in
     walk-moves f s goes c.args.at c.loop-k.i c.loop-k.invariant c.in-Go.k e
 
 pub returns-in-Stop : goal.returns-in-Stop
@@ -36,7 +35,7 @@ returns-in-Stop c =
     let s = c.args.s.now in
     let f = look_at s c.args.t.now in
     let goes = look-goes s c.args.t.now in
-        let e : f c.loop-k.i ≡ Stop c.in-Stop.k = sym c.look-b.ensures ∙ c.in-Stop.is in
+    let e : f c.loop-k.i ≡ Stop c.in-Stop.k = sym c.look-b.ensures ∙ c.in-Stop.is in
     walk-stops f s goes c.args.at c.loop-k.i c.loop-k.invariant c.in-Stop.k e
 
 pub returns-in-Stuck : goal.returns-in-Stuck

@@ -1,4 +1,3 @@
-use Prim.Native.Nat.{◌-◌}
 use mathlib.Core.Path.{◌≡◌, sym, ◌∙◌}
 use native.Mathlib.Omega.{arith}
 use Rattle.pieces.specs.declared.Step.TheVariants.{Go, Stop, Stuck}
@@ -19,7 +18,7 @@ returns-in-Stop c =
     let s = c.args.s.now in
     let f = take_at s c.args.at in
     let goes = take-goes s c.args.at in
-        let e : f c.loop-n.i ≡ Stop c.in-Stop.k = sym c.take-b.ensures ∙ c.in-Stop.is in
+    let e : f c.loop-n.i ≡ Stop c.in-Stop.k = sym c.take-b.ensures ∙ c.in-Stop.is in
     walk-stops f s goes c.args.at c.loop-n.i c.loop-n.invariant.0 c.in-Stop.k e
 
 pub returns-in-Stuck : goal.returns-in-Stuck
@@ -38,7 +37,7 @@ loop-n-smaller c =
     let s = c.args.s.now in
     let f = take_at s c.args.at in
     let goes = take-goes s c.args.at in
-        let e : f c.loop-n.i ≡ Go c.in-Go.k = sym c.take-b.ensures ∙ c.in-Go.is in
+    let e : f c.loop-n.i ≡ Go c.in-Go.k = sym c.take-b.ensures ∙ c.in-Go.is in
     let g = step-on f s goes c.args.at c.loop-n.i c.loop-n.invariant.0 c.in-Go.k e in
     omega arith
 
@@ -47,6 +46,6 @@ loop-n-preserved c =
     let s = c.args.s.now in
     let f = take_at s c.args.at in
     let goes = take-goes s c.args.at in
-        let e : f c.loop-n.i ≡ Go c.in-Go.k = sym c.take-b.ensures ∙ c.in-Go.is in
+    let e : f c.loop-n.i ≡ Go c.in-Go.k = sym c.take-b.ensures ∙ c.in-Go.is in
     let g = step-on f s goes c.args.at c.loop-n.i c.loop-n.invariant.0 c.in-Go.k e in
     (walk-moves f s goes c.args.at c.loop-n.i c.loop-n.invariant.0 c.in-Go.k e, omega arith)

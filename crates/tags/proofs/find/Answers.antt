@@ -1,4 +1,3 @@
-use Prim.Native.Nat.{◌-◌}
 use mathlib.Core.Path.{◌≡◌, sym, ◌∙◌}
 use mathlib.Core.List.{◌++◌}
 use native.Mathlib.Omega.{arith}
@@ -20,7 +19,7 @@ loop-k-smaller c =
     let s = c.args.s.now in
     let f = seek_at s (c.args.lead.now ++ c.args.rest.now) c.args.stop in
     let goes = seek-goes s (c.args.lead.now ++ c.args.rest.now) c.args.stop in
-        let e : f c.loop-k.i ≡ Go c.in-Go.k = sym c.seek-b.ensures ∙ c.in-Go.is in
+    let e : f c.loop-k.i ≡ Go c.in-Go.k = sym c.seek-b.ensures ∙ c.in-Go.is in
     let g = step-on f s goes c.args.at c.loop-k.i c.loop-k.invariant c.in-Go.k e in
     let g1 = g.on in
     let g2 = g.in-it in
@@ -31,7 +30,7 @@ loop-k-preserved c =
     let s = c.args.s.now in
     let f = seek_at s (c.args.lead.now ++ c.args.rest.now) c.args.stop in
     let goes = seek-goes s (c.args.lead.now ++ c.args.rest.now) c.args.stop in
-        let e : f c.loop-k.i ≡ Go c.in-Go.k = sym c.seek-b.ensures ∙ c.in-Go.is in
+    let e : f c.loop-k.i ≡ Go c.in-Go.k = sym c.seek-b.ensures ∙ c.in-Go.is in
     walk-moves f s goes c.args.at c.loop-k.i c.loop-k.invariant c.in-Go.k e
 
 pub returns-in-Stop : goal.returns-in-Stop
@@ -40,7 +39,7 @@ returns-in-Stop c =
     let s = c.args.s.now in
     let f = seek_at s (c.args.lead.now ++ c.args.rest.now) c.args.stop in
     let goes = seek-goes s (c.args.lead.now ++ c.args.rest.now) c.args.stop in
-        let e : f c.loop-k.i ≡ Stop c.in-Stop.k = sym c.seek-b.ensures ∙ c.in-Stop.is in
+    let e : f c.loop-k.i ≡ Stop c.in-Stop.k = sym c.seek-b.ensures ∙ c.in-Stop.is in
     walk-stops f s goes c.args.at c.loop-k.i c.loop-k.invariant c.in-Stop.k e
 
 pub returns-in-Stuck : goal.returns-in-Stuck

@@ -1,4 +1,3 @@
-use Prim.Native.Nat.{◌-◌}
 use mathlib.Core.Path.{◌≡◌, sym, ◌∙◌}
 use native.Mathlib.Omega.{arith}
 use Rattle.pieces.specs.declared.Step.TheVariants.{Go, Stop, Stuck}
@@ -19,7 +18,7 @@ loop-j-smaller c =
     let s = c.args.s.now in
     let f = bit_at s c.args.q in
     let goes = bit-goes s c.args.q c.requires.q_nonzero in
-        let e : f c.loop-j.i ≡ Go c.in-Go.j = sym c.bit-b.ensures ∙ c.in-Go.is in
+    let e : f c.loop-j.i ≡ Go c.in-Go.j = sym c.bit-b.ensures ∙ c.in-Go.is in
     let g = step-on f s goes c.args.at c.loop-j.i c.loop-j.invariant c.in-Go.j e in
     let g1 = g.on in
     let g2 = g.in-it in
@@ -30,7 +29,7 @@ loop-j-preserved c =
     let s = c.args.s.now in
     let f = bit_at s c.args.q in
     let goes = bit-goes s c.args.q c.requires.q_nonzero in
-        let e : f c.loop-j.i ≡ Go c.in-Go.j = sym c.bit-b.ensures ∙ c.in-Go.is in
+    let e : f c.loop-j.i ≡ Go c.in-Go.j = sym c.bit-b.ensures ∙ c.in-Go.is in
     walk-moves f s goes c.args.at c.loop-j.i c.loop-j.invariant c.in-Go.j e
 
 pub returns-in-Stop : goal.returns-in-Stop
@@ -38,7 +37,7 @@ returns-in-Stop c =
     let s = c.args.s.now in
     let f = bit_at s c.args.q in
     let goes = bit-goes s c.args.q c.requires.q_nonzero in
-        let e : f c.loop-j.i ≡ Stop c.in-Stop.j = sym c.bit-b.ensures ∙ c.in-Stop.is in
+    let e : f c.loop-j.i ≡ Stop c.in-Stop.j = sym c.bit-b.ensures ∙ c.in-Stop.is in
     walk-stops f s goes c.args.at c.loop-j.i c.loop-j.invariant c.in-Stop.j e
 
 pub returns-in-Stuck : goal.returns-in-Stuck

@@ -1,4 +1,4 @@
-use Prim.Native.Nat.{ℕ, ◌+◌, ◌-◌}
+use Prim.Native.Nat.{ℕ, ◌+◌}
 use mathlib.Core.Path.{◌≡◌, sym, ap, ◌∙◌}
 use mathlib.Core.Bool.{true}
 use native.Mathlib.Omega.{arith}
@@ -20,7 +20,7 @@ ran : (c : goal.Then-k-w) → let a = c.args in let l = c.loop-at in let q = c.b
 ran c =
     let s = c.args.s.now in
     let i = c.loop-at.i in
-        let h : is_run (byte_at s i) ≡ true = ap is_run (sym c.byte-b.ensures) ∙ sym c.is_run.ensures ∙ c.if-is_run.true in
+    let h : is_run (byte_at s i) ≡ true = ap is_run (sym c.byte-b.ensures) ∙ sym c.is_run.ensures ∙ c.if-is_run.true in
     record { so_far = c.loop-at.invariant; no_end = on c; is = sym (ap (λ (b : ℕ). Scalar b (i + 1)) c.byte-b.ensures ∙ char-run s i h) }
 
 -- what is known behind the test of the quote
@@ -32,7 +32,7 @@ ran-at-After-shared_slice_known-then-is_run-1-unread : (c : goal.After-shared_sl
 ran-at-After-shared_slice_known-then-is_run-1-unread c =
     let s = c.args.s.now in
     let i = c.loop-at.i in
-        let h : is_run (byte_at s i) ≡ true = ap is_run (sym c.byte-b.ensures) ∙ sym c.is_run.ensures ∙ c.if-is_run.true in
+    let h : is_run (byte_at s i) ≡ true = ap is_run (sym c.byte-b.ensures) ∙ sym c.is_run.ensures ∙ c.if-is_run.true in
     record { so_far = c.loop-at.invariant; no_end = on-at-After-shared_slice_known-then-is_run-1-unread c; is = sym (ap (λ (b : ℕ). Scalar b (i + 1)) c.byte-b.ensures ∙ char-run s i h) }
 
 -- what is known behind the test of the quote
@@ -44,7 +44,7 @@ ran-at-Then-b-w : (c : goal.Then-b-w) → let a = c.args in let l = c.loop-at in
 ran-at-Then-b-w c =
     let s = c.args.s.now in
     let i = c.loop-at.i in
-        let h : is_run (byte_at s i) ≡ true = ap is_run (sym c.byte-b.ensures) ∙ sym c.is_run.ensures ∙ c.if-is_run.true in
+    let h : is_run (byte_at s i) ≡ true = ap is_run (sym c.byte-b.ensures) ∙ sym c.is_run.ensures ∙ c.if-is_run.true in
     record { so_far = c.loop-at.invariant; no_end = on-at-Then-b-w c; is = sym (ap (λ (b : ℕ). Scalar b (i + 1)) c.byte-b.ensures ∙ char-run s i h) }
 
 -- what is known behind the test of the quote
@@ -56,7 +56,7 @@ ran-at-Else-b-w : (c : goal.Else-b-w) → let a = c.args in let l = c.loop-at in
 ran-at-Else-b-w c =
     let s = c.args.s.now in
     let i = c.loop-at.i in
-        let h : is_run (byte_at s i) ≡ true = ap is_run (sym c.byte-b.ensures) ∙ sym c.is_run.ensures ∙ c.if-is_run.true in
+    let h : is_run (byte_at s i) ≡ true = ap is_run (sym c.byte-b.ensures) ∙ sym c.is_run.ensures ∙ c.if-is_run.true in
     record { so_far = c.loop-at.invariant; no_end = on-at-Else-b-w c; is = sym (ap (λ (b : ℕ). Scalar b (i + 1)) c.byte-b.ensures ∙ char-run s i h) }
 
 -- what is known behind the test of the quote

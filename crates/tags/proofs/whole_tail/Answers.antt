@@ -20,7 +20,7 @@ pub overflow_add-result : goal.overflow_add-result
 overflow_add-result c =
     let s = c.args.s.now in
     let a = c.args.a in
-        let w : walk_at (take_at s a) s a ≡ At c.in-At.j = sym c.attributes-z.ensures ∙ c.in-At.is in
+    let w : walk_at (take_at s a) s a ≡ At c.in-At.j = sym c.attributes-z.ensures ∙ c.in-At.is in
     let f : c.byte.result ≡ byte_at s c.in-At.j = cc in
     let h : c.in-At.j < length s = inside_is s c.in-At.j 62 (lit< tt) (omega arith) in
     omega arith
@@ -30,7 +30,7 @@ unfolding tail_at shut_at
 returns-then-byte-eq62 c =
     let s = c.args.s.now in
     let a = c.args.a in
-        let w : walk_at (take_at s a) s a ≡ At c.in-At.j = sym c.attributes-z.ensures ∙ c.in-At.is in
+    let w : walk_at (take_at s a) s a ≡ At c.in-At.j = sym c.attributes-z.ensures ∙ c.in-At.is in
     let f : c.byte.result ≡ byte_at s c.in-At.j = cc in
     rw (w, eq-eqb (byte_at s c.in-At.j) 62 (omega arith))
 
@@ -38,7 +38,7 @@ pub overflow_add-result-then-stands_at : goal.overflow_add-result-then-stands_at
 overflow_add-result-then-stands_at c =
     let s = c.args.s.now in
     let a = c.args.a in
-        let w : walk_at (take_at s a) s a ≡ At c.in-At.j = sym c.attributes-z.ensures ∙ c.in-At.is in
+    let w : walk_at (take_at s a) s a ≡ At c.in-At.j = sym c.attributes-z.ensures ∙ c.in-At.is in
     let f : c.byte.result ≡ byte_at s c.in-At.j = cc in
     let y : stands (47 ∷ 62 ∷ []) s c.in-At.j ≡ true = sym c.stands_at.ensures ∙ c.if-stands_at.true in
     let h : c.in-At.j + 2 ≤ length s = stands-in (47 ∷ 62 ∷ []) s c.in-At.j y (lit< tt) in
@@ -49,7 +49,7 @@ unfolding tail_at shut_at bytes
 returns-then-stands_at c =
     let s = c.args.s.now in
     let a = c.args.a in
-        let w : walk_at (take_at s a) s a ≡ At c.in-At.j = sym c.attributes-z.ensures ∙ c.in-At.is in
+    let w : walk_at (take_at s a) s a ≡ At c.in-At.j = sym c.attributes-z.ensures ∙ c.in-At.is in
     let f : c.byte.result ≡ byte_at s c.in-At.j = cc in
     let y : stands (47 ∷ 62 ∷ []) s c.in-At.j ≡ true = sym c.stands_at.ensures ∙ c.if-stands_at.true in
     rw (w, ne_eqb (byte_at s c.in-At.j) 62 (omega arith), y)
@@ -59,7 +59,7 @@ unfolding tail_at shut_at bytes
 returns-else-stands_at c =
     let s = c.args.s.now in
     let a = c.args.a in
-        let w : walk_at (take_at s a) s a ≡ At c.in-At.j = sym c.attributes-z.ensures ∙ c.in-At.is in
+    let w : walk_at (take_at s a) s a ≡ At c.in-At.j = sym c.attributes-z.ensures ∙ c.in-At.is in
     let f : c.byte.result ≡ byte_at s c.in-At.j = cc in
     let y : stands (47 ∷ 62 ∷ []) s c.in-At.j ≡ false = sym c.stands_at.ensures ∙ c.if-stands_at.false in
     rw (w, ne_eqb (byte_at s c.in-At.j) 62 (omega arith), y)

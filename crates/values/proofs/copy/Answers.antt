@@ -45,7 +45,7 @@ pub overflow_add-i : goal.overflow_add-i
 overflow_add-i c =
     let s = c.args.s.now in
     let i = c.lead-i.result in
-        ⊎_elim (λ h. omega (arith, h)) (λ h. omega (arith, h)) (run-edge s i i c.calm_blocks-n.result c.calm_blocks-n.ensures.1 (inl (omega arith)))
+    ⊎_elim (λ h. omega (arith, h)) (λ h. omega (arith, h)) (run-edge s i i c.calm_blocks-n.result c.calm_blocks-n.ensures.1 (inl (omega arith)))
 
 pub overflow_sub-g : goal.overflow_sub-g
 overflow_sub-g c = c.calm_blocks-n.ensures.0

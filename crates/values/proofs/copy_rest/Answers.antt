@@ -1,4 +1,4 @@
-use Prim.Native.Nat.{◌+◌, ◌-◌, ◌<◌}
+use Prim.Native.Nat.{◌+◌, ◌<◌}
 use mathlib.Core.Path.{◌≡◌, sym, ◌∙◌}
 use native.Mathlib.Omega.{arith}
 use lib.ListN.{length, take}
@@ -21,7 +21,7 @@ mark-low c = let l = mark-most c.byte-b.result (sym c.is_mark.ensures ∙ c.if-i
 -- another character, which is one of them too
 more : (c : goal.After-low_of) → let a = c.args in More a.s.now (rest_at a.s.now a.at) c.loop-k.i c.loop-k.k c.in-Is.c c.in-Is.j
 more c =
-        read_more c.loop-k.invariant.reads _ _ (sym c.slow-x.ensures ∙ c.in-Is.is)
+    read_more c.loop-k.invariant.reads _ _ (sym c.slow-x.ensures ∙ c.in-Is.is)
 
 room : (c : goal.After-low_of) → let a = c.args in c.loop-k.k < length (take a.g (rest_at a.s.now a.at))
 room c = in_take (more c) c.loop-k-test.true
@@ -53,23 +53,23 @@ returns-in_default c =
 
 pub overflow_add-out-in-loop-k : goal.overflow_add-out-in-loop-k
 overflow_add-out-in-loop-k c =
-        omega (arith, room c, c.requires, c.loop-k.invariant.long)
+    omega (arith, room c, c.requires, c.loop-k.invariant.long)
 
 pub bounds-out-to-in-loop-k : goal.bounds-out-to-in-loop-k
 bounds-out-to-in-loop-k c =
-        omega (arith, room c, c.requires, c.loop-k.invariant.long)
+    omega (arith, room c, c.requires, c.loop-k.invariant.long)
 
 pub overflow_add-k-in-loop-k : goal.overflow_add-k-in-loop-k
 overflow_add-k-in-loop-k c =
     let m = more c in
-        omega (arith, m.goes.on, m.goes.in-it, c.loop-k.invariant.reads.counts)
+    omega (arith, m.goes.on, m.goes.in-it, c.loop-k.invariant.reads.counts)
 
 pub loop-k-smaller : goal.loop-k-smaller
 loop-k-smaller c = let m = more c in omega (arith, m.goes.on, m.goes.in-it)
 
 pub loop-k-preserved : goal.loop-k-preserved
 loop-k-preserved c =
-        copy_more c.loop-k.invariant _ (more c) c.loop-k-test.true c.low_of.ensures
+    copy_more c.loop-k.invariant _ (more c) c.loop-k-test.true c.low_of.ensures
 
 pub returns : goal.returns
 returns c = let both = copy-full c.loop-k.invariant c.loop-k-test.false in record { value = both.0; out_after = both.1 }

@@ -1,5 +1,4 @@
 use native.Mathlib.Omega.{arith}
-use Prim.Native.Nat.{◌-◌}
 use mathlib.Core.Path.{sym, ◌∙◌}
 use Rattle.values.specs.WorkingSteps.{rest_at}
 use Rattle.values.proofs.Loops.{More, read_more, rest-starts, exceeds-not, exceeds-so}

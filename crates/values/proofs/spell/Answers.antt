@@ -1,4 +1,4 @@
-use Prim.Native.Nat.{◌+◌, ◌-◌, ◌<◌}
+use Prim.Native.Nat.{◌+◌, ◌<◌}
 use mathlib.Core.Path.{◌≡◌, sym, ◌∙◌}
 use mathlib.Core.Logic.{inl, inr, ⊎_elim}
 use native.Mathlib.Omega.{arith}
@@ -106,7 +106,7 @@ returns-in_default c = let both = spell-done (run-at-In_default c) (sym c.slow-x
 
 pub put_scalar-e-requires : goal.put_scalar-e-requires
 put_scalar-e-requires c =
-        let r = run-at-After-put_scalar-arg-1 c in
+    let r = run-at-After-put_scalar-arg-1 c in
     record { c_in_bounds = fits r _ _ (next c) (short c) c.requires; c_bound = legal-most _ (next-legal r _ _ (next c) (short c)) }
 
 pub overflow_add-k-in-loop-k : goal.overflow_add-k-in-loop-k
@@ -117,4 +117,4 @@ loop-k-smaller c = let g = (step-more _ _ _ _ (next-at-After-slice_known-in-loop
 
 pub loop-k-preserved : goal.loop-k-preserved
 loop-k-preserved c =
-            (rw c.put_scalar-e.ensures.value (spell-more (run-at-After-slice_known-in-loop-k-2-1 c) _ _ (next-at-After-slice_known-in-loop-k-2-1 c) (short-at-After-slice_known-in-loop-k-2-1 c) _ c.put_scalar-e.ensures.out_after), inr (step-more _ _ _ _ (next-at-After-slice_known-in-loop-k-2-1 c)).1.in-it)
+    (rw c.put_scalar-e.ensures.value (spell-more (run-at-After-slice_known-in-loop-k-2-1 c) _ _ (next-at-After-slice_known-in-loop-k-2-1 c) (short-at-After-slice_known-in-loop-k-2-1 c) _ c.put_scalar-e.ensures.out_after), inr (step-more _ _ _ _ (next-at-After-slice_known-in-loop-k-2-1 c)).1.in-it)

@@ -11,8 +11,8 @@ returns-then-i-eq0 c = sym (given-none c.args.n) ∙ ap (given_to c.args.n) (sym
 
 pub returns-then-i-a : goal.returns-then-i-a
 returns-then-i-a c =
-        up_first (1799 - c.args.n - 1) c.args.i c.if-i-a.true ∙ given-some c.args.n c.args.i (search rules)
+    up_first (1799 - c.args.n - 1) c.args.i c.if-i-a.true ∙ given-some c.args.n c.args.i (search rules)
 
 pub returns : goal.returns
 returns c =
-        up-half (1799 - c.args.n - 1) c.args.i c.if-i-a.false ∙ given-some c.args.n c.args.i (search rules)
+    up-half (1799 - c.args.n - 1) c.args.i c.if-i-a.false ∙ given-some c.args.n c.args.i (search rules)

@@ -10,10 +10,10 @@ use Rattle.wording.proofs.put_first.Goals as goal
 
 pub spell-r-requires : goal.spell-r-requires
 spell-r-requires c =
-        let t = rest_at c.args.s.now c.lead.result in
+    let t = rest_at c.args.s.now c.lead.result in
     omega (arith, c.requires, bytes_le (take 1800 t) (plain-short t))
 
 pub returns : goal.returns
 returns c =
-            let a = c.args in
+    let a = c.args in
     let from = from-lead a.s.now a.p _ c.lead.ensures in let both = spelled-put a.s.now _ 1800 0 _ (value_at a.s.now a.p) from c.spell-r.ensures.value a.out.now 0 _ (omega arith) c.spell-r.ensures.out_after in record { value = both.0; out_after = both.1 }

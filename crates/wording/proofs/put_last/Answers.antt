@@ -45,7 +45,7 @@ few-at-After-struct_known-2-1 c = sym c.exceeds.ensures ∙ c.if-exceeds.false
 pub put_words-requires : goal.put_words-requires
 unfolding bytes every
 put_words-requires c =
-            record { t_value = refl; room = room_of_lem c.requires 3 (omega (arith, c.requires.short, ap length (last_more (left c) (more c)))) }
+    record { t_value = refl; room = room_of_lem c.requires 3 (omega (arith, c.requires.short, ap length (last_more (left c) (more c)))) }
 
 pub returns-then-exceeds : goal.returns-then-exceeds
 unfolding bytes
@@ -53,12 +53,12 @@ returns-then-exceeds c = let both = pen-all (pen-first c.args.out.now c.args.pen
 
 pub spell-r-requires : goal.spell-r-requires
 spell-r-requires c =
-            room_for c.requires (take 3 (left-at-After-spell-arg-1 c)) (omega (arith, ap length (last-three (left-at-After-spell-arg-1 c) (few c))))
+    room_for c.requires (take 3 (left-at-After-spell-arg-1 c)) (omega (arith, ap length (last-three (left-at-After-spell-arg-1 c) (few c))))
 
 pub overflow_add-result : goal.overflow_add-result
 overflow_add-result c =
-                omega (arith, c.requires.short, count-is _ _ _ _ _ (left-at-After-struct_known-2-1 c) refl c.spell-r.ensures.value, ap length (last-three (left-at-After-struct_known-2-1 c) (few-at-After-struct_known-2-1 c)))
+    omega (arith, c.requires.short, count-is _ _ _ _ _ (left-at-After-struct_known-2-1 c) refl c.spell-r.ensures.value, ap length (last-three (left-at-After-struct_known-2-1 c) (few-at-After-struct_known-2-1 c)))
 
 pub returns : goal.returns
 returns c =
-                let three = spelled-put _ _ _ _ _ (left-at-After-struct_known-2-1 c) refl c.spell-r.ensures.value c.args.out.now c.args.pen.count _ refl c.spell-r.ensures.out_after in let both = pen-all (pen-first c.args.out.now c.args.pen (take 3 (left-at-After-struct_known-2-1 c)) three) _ (last-three (left-at-After-struct_known-2-1 c) (few-at-After-struct_known-2-1 c)) in record { value = both.0; out_after = both.1 }
+    let three = spelled-put _ _ _ _ _ (left-at-After-struct_known-2-1 c) refl c.spell-r.ensures.value c.args.out.now c.args.pen.count _ refl c.spell-r.ensures.out_after in let both = pen-all (pen-first c.args.out.now c.args.pen (take 3 (left-at-After-struct_known-2-1 c)) three) _ (last-three (left-at-After-struct_known-2-1 c) (few-at-After-struct_known-2-1 c)) in record { value = both.0; out_after = both.1 }

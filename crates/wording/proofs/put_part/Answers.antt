@@ -70,12 +70,12 @@ returns-then-is_empty c = let both = pen-all (pen-none c.args.out.now c.args.pen
 
 pub put_spaced-a-requires : goal.put_spaced-a-requires
 put_spaced-a-requires c =
-        let room = c.requires.room in
+    let room = c.requires.room in
     room_of_lem room _ (omega (arith, room.short, ap length (two c), length-append (front c) (last_of (rest c))))
 
 pub put_last-requires : goal.put_last-requires
 put_last-requires c =
-            room-past c.requires.room (put c) _
+    room-past c.requires.room (put c) _
     (omega (arith, ap length (two-at-After-put_last-arg-2-1 c), length-append (front-at-After-put_last-arg-2-1 c) (last_of (rest-at-After-put_last-arg-2-1 c)), ap (λ (v : List ℕ). length (last_of v)) (left c)))
 
 pub returns : goal.returns

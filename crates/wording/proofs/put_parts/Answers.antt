@@ -148,25 +148,25 @@ both-at-After-slice_known-3-1 c = parts-short (before-at-After-slice_known-3-1 c
 
 pub put_part-e-requires : goal.put_part-e-requires
 put_part-e-requires c =
-            let d = description c in
+    let d = description c in
     let i = instruction c in
     let low : 3 ≤ c.given-g.result = rw (takes c) (given-ge (before c) (length i) (few c)) in
     record { le_g = (λ l. low); room = room_of_lem c.requires _ (description-room (before c) d i (few c) c.given-g.result _ (takes c) refl) }
 
 pub returns-then-i-eq0 : goal.returns-then-i-eq0
 returns-then-i-eq0 c =
-        let i = instruction-at-Then-i-eq0 c in
+    let i = instruction-at-Then-i-eq0 c in
     let none : length i ≡ 0 = sym c.size-i.ensures ∙ c.if-i-eq0.true in let both = pen-all (put c) _ (both c ∙ ap (λ (x : List ℕ). one c ++ x) (part_none (1799 - c.put_part-e.result.count) i none) ∙ append-nil (one c)) in record { value = both.0; out_after = both.1 }
 
 pub overflow_sub-left : goal.overflow_sub-left
 overflow_sub-left c =
-            instruction-begins (before-at-After-struct_known-1 c) (description-at-After-struct_known-1 c) (instruction-at-After-struct_known-1 c) (few-at-After-struct_known-1 c) c.given-g.result _ (takes-at-After-struct_known-1 c) (ends-at-After-struct_known-1 c) (some c)
+    instruction-begins (before-at-After-struct_known-1 c) (description-at-After-struct_known-1 c) (instruction-at-After-struct_known-1 c) (few-at-After-struct_known-1 c) c.given-g.result _ (takes-at-After-struct_known-1 c) (ends-at-After-struct_known-1 c) (some c)
 
 pub put_part-requires : goal.put_part-requires
 put_part-requires c =
-                let d = description-at-After-put_part-arg-2-1 c in
+    let d = description-at-After-put_part-arg-2-1 c in
     let i = instruction-at-After-put_part-arg-2-1 c in
-        let e = c.put_part-e.result.count in
+    let e = c.put_part-e.result.count in
     let fits = instruction-room (before-at-After-put_part-arg-2-1 c) d i (few-at-After-put_part-arg-2-1 c) c.given-g.result e (takes-at-After-put_part-arg-2-1 c) (ends-at-After-put_part-arg-2-1 c) (some-at-After-put_part-arg-2-1 c) in
     let room = room_of_lem c.requires (length (one-at-After-put_part-arg-2-1 c) + length (two-at-After-put_part-arg-2-1 c)) (omega (arith, fits, ends-at-After-put_part-arg-2-1 c)) in
     record { le_g = instruction-fair (before-at-After-put_part-arg-2-1 c) d i (few-at-After-put_part-arg-2-1 c) c.given-g.result e (takes-at-After-put_part-arg-2-1 c) (ends-at-After-put_part-arg-2-1 c) (some-at-After-put_part-arg-2-1 c); room = room-past room (put-at-After-put_part-arg-2-1 c) _ (omega arith) }

@@ -57,12 +57,12 @@ put_words-a-requires c = record { t_value = refl; room = room_of_lem c.requires 
 pub put_spaced-b-requires : goal.put_spaced-b-requires
 unfolding bytes
 put_spaced-b-requires c =
-        room-past c.requires (one c) _ (omega (arith, length-take 200 (value-at-After-put_spaced-arg-1 c)))
+    room-past c.requires (one c) _ (omega (arith, length-take 200 (value-at-After-put_spaced-arg-1 c)))
 
 pub put_words-requires : goal.put_words-requires
 unfolding every bytes
 put_words-requires c =
-            record { t_value = refl; room = room-past c.requires (two c) _ (omega (arith, length-take 200 (value-at-After-put_words-arg-7-1 c))) }
+    record { t_value = refl; room = room-past c.requires (two c) _ (omega (arith, length-take 200 (value-at-After-put_words-arg-7-1 c))) }
 
 pub returns : goal.returns
 unfolding bytes

@@ -35,10 +35,10 @@ returns-then-is_empty c = let both = pen-all (pen-none c.args.out.now c.args.pen
 
 pub put_spaced-r-requires : goal.put_spaced-r-requires
 put_spaced-r-requires c =
-            room_of_lem c.requires _ (omega (arith, room c, length-take (1799 - c.args.pen.count) (value-at-After-put_spaced-arg-1 c)))
+    room_of_lem c.requires _ (omega (arith, room c, length-take (1799 - c.args.pen.count) (value-at-After-put_spaced-arg-1 c)))
 
 pub returns : goal.returns
 returns c =
-                    let v = value-at-After-result-1 c in
+    let v = value-at-After-result-1 c in
     let n = c.args.pen.count in let both = pen-all (pen-first c.args.out.now c.args.pen (32 ∷ take (1799 - n) v) (c.put_spaced-r.ensures.pen_value, c.put_spaced-r.ensures.out_after)) _
     (spaced-some v (sym c.is_empty.ensures ∙ c.if-is_empty.false) n (room-at-After-result-1 c)) in record { value = both.0; out_after = both.1 }

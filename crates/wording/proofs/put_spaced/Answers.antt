@@ -34,17 +34,17 @@ spaced-at-After-struct_known-2-1 c = space-put c.args.out.now c.args.pen c.put_b
 
 pub spell-r-requires : goal.spell-r-requires
 spell-r-requires c =
-            let w = take c.args.g (value c) in
+    let w = take c.args.g (value c) in
     let left = room-past c.requires (spaced c) (length w) (omega arith) in
     omega (arith, room_for left w (omega arith), ap (λ (v : List ℕ). length (utf8 (take c.args.g v))) (from c))
 
 pub overflow_add-result-2 : goal.overflow_add-result-2
 overflow_add-result-2 c =
-        omega (arith, c.requires.short, counts c)
+    omega (arith, c.requires.short, counts c)
 
 pub returns : goal.returns
 returns c =
-            let w = take c.args.g (value-at-After-struct_known-2-1 c) in
+    let w = take c.args.g (value-at-After-struct_known-2-1 c) in
     let put = spelled-put _ _ _ _ _ (value-at-After-struct_known-2-1 c) (from-at-After-struct_known-2-1 c) c.spell-r.ensures.value _ (c.args.pen.count + 1) _ refl c.spell-r.ensures.out_after in
     let all = pen-all (pen-next (spaced-at-After-struct_known-2-1 c) w put) (32 ∷ w) refl in
     record { pen_value = all.0; next_value = goes-from _ _ _ _ _ (value-at-After-struct_known-2-1 c) (from-at-After-struct_known-2-1 c) c.spell-r.ensures.value; out_after = all.1 }

@@ -26,7 +26,7 @@ sentence c = sentence_of c.args.b
 
 one : (c : goal.After-put_plain-arg-1) → let n = c.put_sentence-n.result in Penned c.args.out.now start_pen (sentence c) c.put_sentence-n.new.out (record { at = n; count = n })
 one c =
-        let n = c.put_sentence-n.ensures.value in
+    let n = c.put_sentence-n.ensures.value in
     let low = sentence-plain c.args.b c.requires.b_value in
     pen-first c.args.out.now start_pen (sentence c) (words-put c.args.out.now start_pen (sentence c) low _ _ n n c.put_sentence-n.ensures.out_after)
 
@@ -44,7 +44,7 @@ value c p = value_at c.args.s.now p
 
 one-at-Then-e-n : (c : goal.Then-e-n) → let n = c.put_sentence-n.result in Penned c.args.out.now start_pen (sentence-at-Then-e-n c) c.put_sentence-n.new.out (record { at = n; count = n })
 one-at-Then-e-n c =
-        let n = c.put_sentence-n.ensures.value in
+    let n = c.put_sentence-n.ensures.value in
     let low = sentence-plain c.args.b c.requires.b_value in
     pen-first c.args.out.now start_pen (sentence-at-Then-e-n c) (words-put c.args.out.now start_pen (sentence-at-Then-e-n c) low _ _ n n c.put_sentence-n.ensures.out_after)
 
@@ -68,11 +68,11 @@ short-at-After-put_phrase-arg-1 c = sentence-le c.args.b (in_order-at-After-put_
 
 none : (c : goal.After-put_phrase-arg-1) → empty (value-at-After-put_phrase-arg-1 c c.args.eas) ≡ true
 none c =
-        value-absent (value-at-After-put_phrase-arg-1 c c.args.eas) _ c.put_plain-e.ensures.value (omega (arith, short-at-After-put_phrase-arg-1 c, c.put_sentence-n.ensures.value)) c.if-e-n.false
+    value-absent (value-at-After-put_phrase-arg-1 c c.args.eas) _ c.put_plain-e.ensures.value (omega (arith, short-at-After-put_phrase-arg-1 c, c.put_sentence-n.ensures.value)) c.if-e-n.false
 
 one-at-After-put_phrase-arg-1 : (c : goal.After-put_phrase-arg-1) → let n = c.put_sentence-n.result in Penned c.args.out.now start_pen (sentence-at-After-put_phrase-arg-1 c) c.put_sentence-n.new.out (record { at = n; count = n })
 one-at-After-put_phrase-arg-1 c =
-        let n = c.put_sentence-n.ensures.value in
+    let n = c.put_sentence-n.ensures.value in
     let low = sentence-plain c.args.b c.requires.b_value in
     pen-first c.args.out.now start_pen (sentence-at-After-put_phrase-arg-1 c) (words-put c.args.out.now start_pen (sentence-at-After-put_phrase-arg-1 c) low _ _ n n c.put_sentence-n.ensures.out_after)
 
@@ -93,11 +93,11 @@ short-at-After-put_parts-arg-1 c = sentence-le c.args.b (in_order-at-After-put_p
 
 none-at-After-put_parts-arg-1 : (c : goal.After-put_parts-arg-1) → empty (value-at-After-put_parts-arg-1 c c.args.eas) ≡ true
 none-at-After-put_parts-arg-1 c =
-        value-absent (value-at-After-put_parts-arg-1 c c.args.eas) _ c.put_plain-e.ensures.value (omega (arith, short-at-After-put_parts-arg-1 c, c.put_sentence-n.ensures.value)) c.if-e-n.false
+    value-absent (value-at-After-put_parts-arg-1 c c.args.eas) _ c.put_plain-e.ensures.value (omega (arith, short-at-After-put_parts-arg-1 c, c.put_sentence-n.ensures.value)) c.if-e-n.false
 
 one-at-After-put_parts-arg-1 : (c : goal.After-put_parts-arg-1) → let n = c.put_sentence-n.result in Penned c.args.out.now start_pen (sentence-at-After-put_parts-arg-1 c) c.put_sentence-n.new.out (record { at = n; count = n })
 one-at-After-put_parts-arg-1 c =
-        let n = c.put_sentence-n.ensures.value in
+    let n = c.put_sentence-n.ensures.value in
     let low = sentence-plain c.args.b c.requires.b_value in
     pen-first c.args.out.now start_pen (sentence-at-After-put_parts-arg-1 c) (words-put c.args.out.now start_pen (sentence-at-After-put_parts-arg-1 c) low _ _ n n c.put_sentence-n.ensures.out_after)
 
@@ -127,11 +127,11 @@ short-at-After-slice_known-5-1 c = sentence-le c.args.b (in_order-at-After-slice
 
 none-at-After-slice_known-5-1 : (c : goal.After-slice_known-5-1) → empty (value-at-After-slice_known-5-1 c c.args.eas) ≡ true
 none-at-After-slice_known-5-1 c =
-        value-absent (value-at-After-slice_known-5-1 c c.args.eas) _ c.put_plain-e.ensures.value (omega (arith, short-at-After-slice_known-5-1 c, c.put_sentence-n.ensures.value)) c.if-e-n.false
+    value-absent (value-at-After-slice_known-5-1 c c.args.eas) _ c.put_plain-e.ensures.value (omega (arith, short-at-After-slice_known-5-1 c, c.put_sentence-n.ensures.value)) c.if-e-n.false
 
 one-at-After-slice_known-5-1 : (c : goal.After-slice_known-5-1) → let n = c.put_sentence-n.result in Penned c.args.out.now start_pen (sentence-at-After-slice_known-5-1 c) c.put_sentence-n.new.out (record { at = n; count = n })
 one-at-After-slice_known-5-1 c =
-        let n = c.put_sentence-n.ensures.value in
+    let n = c.put_sentence-n.ensures.value in
     let low = sentence-plain c.args.b c.requires.b_value in
     pen-first c.args.out.now start_pen (sentence-at-After-slice_known-5-1 c) (words-put c.args.out.now start_pen (sentence-at-After-slice_known-5-1 c) low _ _ n n c.put_sentence-n.ensures.out_after)
 
@@ -146,11 +146,11 @@ put_sentence-n-requires c = record { at_in_bounds = omega (arith, c.requires.in_
 
 pub put_plain-e-requires : goal.put_plain-e-requires
 put_plain-e-requires c =
-            room-past (room-start c.args.out.now c.requires.in_bounds) (one c) _ (omega (arith, short c))
+    room-past (room-start c.args.out.now c.requires.in_bounds) (one c) _ (omega (arith, short c))
 
 pub returns-then-e-n : goal.returns-then-e-n
 returns-then-e-n c =
-            let t = sentence-at-Then-e-n c in
+    let t = sentence-at-Then-e-n c in
     let ve = value c c.args.eas in
     let there = value_there ve _ c.put_plain-e.ensures.value c.if-e-n.true in
     let cut = pen-first c.args.out.now start_pen (plain t) (pen-all (one-at-Then-e-n c) _ (take_all 1800 t (omega (arith, short-at-Then-e-n c)))) in let both = pen-start (plain-next t ve cut (c.put_plain-e.ensures.value, c.put_plain-e.ensures.out_after)) _
@@ -158,16 +158,16 @@ returns-then-e-n c =
 
 pub put_phrase-f-requires : goal.put_phrase-f-requires
 put_phrase-f-requires c =
-            room-past (room-start c.args.out.now c.requires.in_bounds) (still c) _ (omega (arith, short-at-After-put_phrase-arg-1 c))
+    room-past (room-start c.args.out.now c.requires.in_bounds) (still c) _ (omega (arith, short-at-After-put_phrase-arg-1 c))
 
 pub put_parts-r-requires : goal.put_parts-r-requires
 put_parts-r-requires c =
-            let vs = value-at-After-put_parts-arg-1 c c.args.sender in
+    let vs = value-at-After-put_parts-arg-1 c c.args.sender in
     room-past (room-start c.args.out.now c.requires.in_bounds) (two c) _ (omega (arith, short-at-After-put_parts-arg-1 c, phrase-le vs, length-append (sentence-at-After-put_parts-arg-1 c) (after_space (phrase vs))))
 
 pub returns : goal.returns
 returns c =
-                let t = sentence-at-After-slice_known-5-1 c in
+    let t = sentence-at-After-slice_known-5-1 c in
     let vs = value-at-After-slice_known-5-1 c c.args.sender in
     let vd = value-at-After-slice_known-5-1 c c.args.description in
     let vi = value-at-After-slice_known-5-1 c c.args.instruction in

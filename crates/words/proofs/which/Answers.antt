@@ -1,6 +1,5 @@
 use mathlib.Core.Path.{sym, ◌∙◌}
-use mathlib.Core.Logic.{⊎_elim}
-use Prim.Native.Nat.{◌+◌, ◌-◌}
+use Prim.Native.Nat.{◌+◌}
 use mathlib.Core.Path.{◌≡◌}
 use lib.ListN.{get_or}
 use Rattle.words.specs.WorkingWords.{words_of, which_of}
@@ -32,10 +31,10 @@ pub loop-k-preserved : goal.loop-k-preserved
 loop-k-preserved c =
     let l = c.loop-k in
     let passed : l.k + 1 + which_of (left c.args.lens.now c.args.text.now (l.k + 1) (l.at + get_or c.args.lens.now l.k 0)) c.args.name.now ≡ which_of (words_of c.args.lens.now c.args.text.now) c.args.name.now =
-      elim c.if-n-name.branch [
-        then-n-name+else-equal w ↦ miss _ _ l.k l.at _ l.invariant.2 (search rules) (search rules) (sym w.equal.ensures ∙ w.if-equal.false)
+    elim c.if-n-name.branch [
+      | then-n-name+else-equal w ↦ miss _ _ l.k l.at _ l.invariant.2 (search rules) (search rules) (sym w.equal.ensures ∙ w.if-equal.false)
       | else-n-name w ↦ other _ _ l.k l.at _ l.invariant.2 (search rules) (search rules) l.invariant.1 w.if-n-name.false
-      ] in
+    ] in
     (search rules, search rules, passed)
 
 pub returns : goal.returns

@@ -1,8 +1,6 @@
 use mathlib.Core.Path.{refl}
-use Prim.Native.Nat.{◌-◌}
 use native.Mathlib.Omega.{arith}
 use borrow.Author.Rules.{rules}
-use Rattle.words.proofs.Tables.{left}
 use Rattle.words.proofs.Places.{none_over, none-cut, this, behind}
 use Rattle.words.proofs.word.Goals as goal
 

@@ -4,7 +4,6 @@ use mathlib.Core.List.{[]}
 use Prim.Native.Nat.{◌-◌, ◌≤◌}
 use lib.ListN.{length, drop, get_or}
 use Rattle.words.specs.WorkingWords.{words_of}
-use Rattle.words.proofs.Tables.{left}
 use Rattle.words.proofs.word.Given as goal
 
 abbrev pub invariant-loop-k : goal.invariant-loop-k
