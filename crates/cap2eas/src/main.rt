@@ -1,13 +1,16 @@
 // Prints the conversion of the message on standard input.
-use libc::{STDIN_FILENO, STDOUT_FILENO};
+#![tactic(auto)]
+
+use std::io;
+use std::io::Read;
 
 // The longest message, and one byte more, which tells a longer one.
-const ROOM: usize = 32769;
+const ROOM: u64 = 32769;
 
-fn main() {
-    let mut message = [0u8; ROOM];
+fn main(rt: HostRuntime) -> io::Result<()> {
+    let mut message = Vec::new(rt.alloc());
     let mut out = [0u8; 8704];
-    let n = io::read_full(STDIN_FILENO, &mut message);
-    let end = report::program(&message[..n], &mut out);
-    io::write_all(STDOUT_FILENO, &out[..end]);
+    rt.reader().take(ROOM).read_to_end(&mut message)?;
+    let end = report::program(&message, &mut out);
+    rt.write_all(&out[..end])
 }

@@ -1,14 +1,20 @@
 // Answers case lines: one line on standard output for each line on standard input.
+#![tactic(auto)]
+
 mod board_lines;
 mod convert_lines;
 mod header_lines;
 mod lines;
 mod message_lines;
 
-use libc::{STDIN_FILENO, STDOUT_FILENO};
+use std::io;
+use std::io::Read;
 
 // The longest line, and one byte more, which tells a longer one.
 const ROOM: usize = 200001;
+
+// As many bytes as are read at a time.
+const PIECE: usize = 65536;
 
 // A line as it is read: its length so far, and whether more may come.
 #[derive(Drop)]
@@ -63,65 +69,81 @@ fn answer_or_not(line: &[u8], n: usize, out: &mut [u8]) -> usize {
     lines::put(out, 0, b"?")
 }
 
-fn answer_line(line: &[u8], n: usize, out: &mut [u8]) {
+fn answer_line(rt: &impl Print, line: &[u8], n: usize, out: &mut [u8]) -> io::Result<()> {
     let end = answer_or_not(line, n, out);
     let all = lines::put(out, end, b"\n");
-    io::write_all(STDOUT_FILENO, lines::front(out, all));
+    rt.write_all(lines::front(out, all))
 }
 
 // Takes one byte behind the n bytes of a line begun, and says how long the line is then.
-fn take_byte(b: u8, line: &mut [u8], n: usize, out: &mut [u8]) -> usize {
+fn take_byte(
+    rt: &impl Print,
+    b: u8,
+    line: &mut [u8],
+    n: usize,
+    out: &mut [u8],
+) -> io::Result<usize> {
     if b == 10 {
-        answer_line(line, n, out);
-        return 0;
+        answer_line(rt, line, n, out)?;
+        return Ok(0);
     }
     if n < line.len() {
         line[n] = b;
-        return n + 1;
+        return Ok(n + 1);
     }
-    n
+    Ok(n)
 }
 
-fn take_all(read: &[u8], line: &mut [u8], n: usize, out: &mut [u8]) -> usize {
+fn take_all(
+    rt: &impl Print,
+    read: &[u8],
+    line: &mut [u8],
+    n: usize,
+    out: &mut [u8],
+) -> io::Result<usize> {
     let mut len = n;
-    let mut i: usize = 0;
-    while i < read.len() {
-        len = take_byte(read[i], line, len, out);
-        i += 1;
+    for b in read {
+        len = take_byte(rt, *b, line, len, out)?;
     }
-    len
+    Ok(len)
 }
 
-fn take_some(line: &mut [u8], n: usize, out: &mut [u8]) -> Taken {
-    let mut buf = io::large_buffer();
-    let got = io::read_full(STDIN_FILENO, &mut buf);
-    let len = take_all(&buf[..got], line, n, out);
-    Taken {
+fn take_some(
+    rt: &impl Print,
+    input: &mut impl Read,
+    line: &mut [u8],
+    n: usize,
+    out: &mut [u8],
+) -> io::Result<Taken> {
+    let mut buf = [0u8; PIECE];
+    let got = input.read(&mut buf)?;
+    let len = take_all(rt, &buf[..got], line, n, out)?;
+    Ok(Taken {
         len: len,
         more: 0 < got,
-    }
+    })
 }
 
-// A proved loop has to end, and nothing says that the input does: the turns count down from a number that no run uses up.
-fn take_input(line: &mut [u8], out: &mut [u8]) -> usize {
+// A proved loop has to end, and nothing says that the input does: it has more turns than any run uses up.
+fn take_input(rt: &(impl Input + Print), line: &mut [u8], out: &mut [u8]) -> io::Result<usize> {
+    let mut input = rt.reader();
     let mut len: usize = 0;
-    let mut turns = u64::MAX;
-    while 0 < turns {
-        let taken = take_some(line, len, out);
+    for _ in 0..u64::MAX {
+        let taken = take_some(rt, &mut input, line, len, out)?;
         len = taken.len;
-        turns -= 1;
         if !taken.more {
-            return len;
+            return Ok(len);
         }
     }
-    len
+    Ok(len)
 }
 
-fn main() {
+fn main(rt: HostRuntime) -> io::Result<()> {
     let mut line = [0u8; ROOM];
     let mut out = [0u8; 400000];
-    let n = take_input(&mut line, &mut out);
+    let n = take_input(&rt, &mut line, &mut out)?;
     if 0 < n {
-        answer_line(&line, n, &mut out);
+        answer_line(&rt, &line, n, &mut out)?;
     }
+    Ok(())
 }
