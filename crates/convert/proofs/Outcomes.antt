@@ -2,13 +2,14 @@
 --     short, long               of outputs too short, and of others
 --     refused, quiet, alert     of others, by what the message is
 --     ready                     what an alert has that it may be written
+--     headed-short, headed      the call for the header, of an output too short, and of another
 --     untouched                 where no header is given, the output is as it was
-use Prim.Native.Nat.{ℕ}
+use Prim.Native.Nat.{ℕ, ◌<◌, ◌≤◌}
 use mathlib.Core.Path.{◌≡◌, refl, sym, ap, ◌∙◌}
 use mathlib.Core.Bool.{Bool, true, false}
 use mathlib.Core.List.{List}
 use native.Mathlib.Omega.{arith}
-use borrow.Author.Tests.{ne_eqb}
+use borrow.Author.Tests.{ne_eqb, le-leb, lt-leb}
 use lib.Seq.{sets}
 use Rattle.parts.specs.Parts.{body_ok, station_ok}
 use Rattle.message.specs.WorkingMessage.{message_says, info_in}
@@ -20,7 +21,7 @@ use Rattle.outputs.specs.Outputs.{alone}
 use Rattle.outputs.specs.WorkingOutputs.{uri_in, UriFits}
 use Rattle.outputs.proofs.Fits.{uri-fits}
 use Rattle.convert.specs.Convert.{no_header, HeaderOutcome, header_answer_of}
-use Rattle.convert.specs.WorkingConvert.{judged_for, outcome_of, call_of}
+use Rattle.convert.specs.WorkingConvert.{judged_for, outcome_of, call_of, header_by, header_call}
 use Rattle.convert.specs.declared.Headed.{Headed}
 
 module _ {A : Type 0} (none : A) (given : Judged → A) where
@@ -45,6 +46,17 @@ module _ {A : Type 0} (none : A) (given : Judged → A) where
     pub alert : j.number ≡ 0 → j.quiet ≡ false → outcome_of none given j ≡ record { number = 0; field = j.field; given = given j }
     unfolding outcome_of
     alert e q = rw (e, q)
+
+-- ---- the call for the header
+
+module _ (s station : List ℕ) (room : ℕ) where
+  pub headed-short : room < 252 → header_call s station room ≡ alone no_header 2 0
+  unfolding header_call
+  headed-short h = short no_header _ _ s station (lt-leb 252 room h)
+
+  pub headed : 252 ≤ room → (j : Judged) → j ≡ judged_for s station → header_call s station room ≡ outcome_of no_header (header_by s station) j
+  unfolding header_call
+  headed h j is = long no_header _ _ s station (le-leb 252 room h) j is
 
 -- ---- the answer and the header's output at exit, as the outcome has them
 
