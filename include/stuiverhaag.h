@@ -1,6 +1,6 @@
 /*
  * The calls of Stuiverhaag for a host in C or C++. Link with libstuiverhaag.a, which
- * `rt staticlib stuiverhaag` makes and tools/install puts where a build finds it.
+ * tools/install makes and puts where a build finds it.
  *
  * A call takes numbers and lent slices, each a pointer and its length in bytes. It keeps no
  * pointer and no state, and uses no heap. The caller sees to three things:
