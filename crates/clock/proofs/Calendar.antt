@@ -143,3 +143,6 @@ days-to-after (suc k) h = rw (add-suc 2000 k, days-to-next) (omega (arith, days-
 
 pub days-to-low : (y : ℕ) → 2000 ≤ y → 730485 ≤ days_to y
 days-to-low y h = omega (arith, days-to-mono 2000 y h, days-to-2000)
+
+pub days-to-high : (y : ℕ) → y ≤ 2099 → days_to y ≤ 766645
+days-to-high y h = omega (arith, days-to-mono y 2099 h, days-to-after 99 (omega arith))

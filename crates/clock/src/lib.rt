@@ -1,4 +1,4 @@
-// Times: a CAP time to seconds since 2000 began in UTC, from these the year, the day of the year, hour and minute; the period of a header;
+// Times: a CAP time to seconds since 2000 began in UTC, from these the year, the day of the year, hour and minute, and back; the period of a header;
 // and how a header writes both.
 #![tactic(auto)]
 
@@ -8,7 +8,7 @@ ghost use Rattle.std.specs.Int.Signed.{mag};
 ghost use Rattle.clock.specs.Calendar.{leap, month_days, days_before, days_to};
 ghost use Rattle.clock.specs.Time.{reads, date_tests, date_of, minutes_tests, minutes_of, second_tests, second_of, is_sign, zone_tests, signed, since2000, utc, span, in_span, time_of, is_time, instant_in};
 ghost use Rattle.clock.specs.Period.{period_of};
-ghost use Rattle.clock.specs.Stamp.{year_day_of, stamp_of};
+ghost use Rattle.clock.specs.Stamp.{year_day_of, stamp_of, instant_of};
 ghost use Rattle.clock.specs.Written.{tttt, jjjhhmm};
 
 use octets::Num;
@@ -300,6 +300,14 @@ pub fn stamp_of(t: u32) -> Stamp
         hour: t % 86400 / 3600,
         minute: t % 3600 / 60,
     }
+}
+
+// The instant of a second of a day of a year.
+pub fn instant_of(year: u32, day: u32, second: u32) -> u32
+    requires { (2000 ≤ year) × (year ≤ 2099) × (1 ≤ day) × (day ≤ 366) × (second < 86400) }
+    ensures { (result ≡ instant_of year day second) × (result < span + 86400) }
+{
+    (days_to(year) + (day - 1) - days_to(2000)) * 86400 + second
 }
 
 // ---- into a header

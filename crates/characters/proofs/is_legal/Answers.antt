@@ -11,10 +11,10 @@ pub returns-then-c-le55295 : goal.returns-then-c-le55295
 returns-then-c-le55295 c = legal-basic c.args.c c.if-c-lt32.false c.if-c-le55295.true
 
 pub returns-then-c-lt57344 : goal.returns-then-c-lt57344
-returns-then-c-lt57344 c = legal-half c.args.c (omega arith) c.if-c-lt57344.true
+returns-then-c-lt57344 c = legal-half c.args.c (omega arith) (omega arith)
 
 pub returns-then-c-le65533 : goal.returns-then-c-le65533
-returns-then-c-le65533 c = legal-upper c.args.c c.if-c-lt57344.false c.if-c-le65533.true
+returns-then-c-le65533 c = legal-upper c.args.c (omega arith) c.if-c-le65533.true
 
 pub returns-then-c-lt65536 : goal.returns-then-c-lt65536
 returns-then-c-lt65536 c = legal-none c.args.c (omega arith) c.if-c-lt65536.true

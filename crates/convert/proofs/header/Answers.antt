@@ -8,7 +8,7 @@ use Rattle.convert.proofs.header.Goals as goal
 
 pub returns-then-out-lt252 : goal.returns-then-out-lt252
 returns-then-out-lt252 c =
-    let both = untouched _ _ _ 2 0 (headed-short c.args.message.now c.args.station.now _ c.if-out-lt252.true) c.no_header.ensures in
+    let both = untouched _ _ _ 2 0 (headed-short c.args.message.now c.args.station.now _ (omega arith)) c.no_header.ensures in
     record { value = both.0; out_after = both.1 }
 
 pub returns-then-j-ne0 : goal.returns-then-j-ne0

@@ -22,17 +22,17 @@ stationed-at-After-struct_known-1 : (c : goal.After-struct_known-1) → station_
 stationed-at-After-struct_known-1 c = sym c.station_ok.ensures ∙ c.if-not-station_ok.false
 
 pub returns-then-out-lt252 : goal.returns-then-out-lt252
-returns-then-out-lt252 c = let r = write-refused _ c.args.p 1 (number_short _ _ c.if-out-lt252.true) in record { value = sym r.0; out_after = sym r.1 }
+returns-then-out-lt252 c = let r = write-refused _ c.args.p 1 (number_short _ _ (omega arith)) in record { value = sym r.0; out_after = sym r.1 }
 
 pub returns-then-not-station_ok : goal.returns-then-not-station_ok
-returns-then-not-station_ok c = let r = write-refused _ c.args.p 2 (number-station _ _ c.if-out-lt252.false (sym c.station_ok.ensures ∙ c.if-not-station_ok.true)) in record { value = sym r.0; out_after = sym r.1 }
+returns-then-not-station_ok c = let r = write-refused _ c.args.p 2 (number-station _ _ (omega arith) (sym c.station_ok.ensures ∙ c.if-not-station_ok.true)) in record { value = sym r.0; out_after = sym r.1 }
 
 pub returns-then-not-body_ok : goal.returns-then-not-body_ok
 returns-then-not-body_ok c =
-    let r = write-refused _ c.args.p 16 (number-parts _ _ c.if-out-lt252.false (stationed c) (sym c.body_ok.ensures ∙ c.if-not-body_ok.true)) in record { value = sym r.0; out_after = sym r.1 }
+    let r = write-refused _ c.args.p 16 (number-parts _ _ (omega arith) (stationed c) (sym c.body_ok.ensures ∙ c.if-not-body_ok.true)) in record { value = sym r.0; out_after = sym r.1 }
 
 pub put_header-requires : goal.put_header-requires
-put_header-requires c = omega (arith, (has _ (bodied c)).few, c.if-out-lt252.false)
+put_header-requires c = omega (arith, (has _ (bodied c)).few)
 
 pub overflow_mul-result : goal.overflow_mul-result
 overflow_mul-result c = omega (arith, (has _ (bodied-at-After-struct_known-1 c)).few)
@@ -43,5 +43,5 @@ overflow_add-result c = omega (arith, (has _ (bodied-at-After-struct_known-1 c))
 pub returns : goal.returns
 returns c =
     let p = c.args.p in
-    let r = write_done c.args.out.now p (number-none _ _ c.if-out-lt252.false (stationed-at-After-struct_known-1 c) (bodied-at-After-struct_known-1 c)) in
+    let r = write_done c.args.out.now p (number-none _ _ (omega arith) (stationed-at-After-struct_known-1 c) (bodied-at-After-struct_known-1 c)) in
     record { value = ap (λ (n : ℕ). record { number = 0; len = n }) (sym (length-header p (bodied-at-After-struct_known-1 c) (stationed-at-After-struct_known-1 c))) ∙ sym r.0; out_after = c.put_header.ensures ∙ sym r.1 }
