@@ -1,22 +1,27 @@
 -- The rules of a board, and a board as its filled records.
 --     kept-rules, encode-ok           what the rules say, and back
 --     board-bytes, board-encode       a board is its filled records and zeros
---     filled_on, records-on ..        the rules judged record by record
+--     filled-counted, ascending-on ..  the rules judged record by record
 use Prim.Native.Nat.{ℕ, zero, suc, ◌+◌, ◌*◌, ◌-◌, ◌/◌, ◌%◌, ◌≤◌, ◌<◌}
-use mathlib.Core.Bool.{Bool, true, false}
+use mathlib.Core.Bool.{Bool, true, false, cond, not, ◌&&◌, true≢false}
 use mathlib.Core.Path.{◌≡◌, refl, sym, ap, ap₂, ◌∙◌}
 use mathlib.Core.Logic.{inl, inr}
 use mathlib.Core.List.{List, [], ◌∷◌, ◌++◌, append-nil}
-use native.Mathlib.Nat.{le_refl, add-zero, not-suc-le-zero, le_of_suc-le-suc}
+use native.Mathlib.Nat.{le_refl, not-suc-le-zero, le_of_suc-le-suc}
+use native.Mathlib.Numerals.{one-add}
 use native.Mathlib.Omega.{arith}
 use lib.Dec.{eqb}
-use lib.ListN.{length, get_or, take, drop, replicate, length-append, length-replicate, length-drop, drop_of_length-le, take-append-drop}
+use lib.ListN.{length, get_or, take, drop, replicate, length-append, length-replicate, length-drop, take-append-drop}
 use lib.Seq.{drop-drop, drop_at, take_all}
 use borrow.Author.Tests.{eq-eqb, ne_eqb, eqb-true}
-use Rattle.octets.specs.declared.Order.{Order}
+use Rattle.std.specs.List.{prefix_len}
+use Rattle.std.specs.Ordering.{is_ge}
+use Rattle.std.specs.Simd.{first_chunks}
+use Rattle.std.specs.declared.cmp.Ordering.{Ordering}
+use Rattle.std.specs.declared.cmp.Ordering.TheVariants.{Less, Equal, Greater}
 use Rattle.octets.specs.Bytes.{pick, every, between}
 use Rattle.octets.specs.Order.{cmp, choose}
-use Rattle.octets.proofs.Tests.{each_of, every_of, one-fails, every-step, every-stop, every-none, every-right, between-low, between-high, between_is}
+use Rattle.octets.proofs.Tests.{and_left, and_right, each_of, every_of, one-fails, every-right, between-low, between-high, between_is}
 use Rattle.octets.proofs.Everys.{last-decides}
 use Rattle.records.specs.Record.{kind, zeros, record_ok}
 use Rattle.records.proofs.Records.{record-long, record-kind}
@@ -25,7 +30,7 @@ use Rattle.ledger.specs.Sorted.{In, Sorted, ascending}
 use Rattle.ledger.proofs.Sorts.{ascending-sorted, sorted-ascending, every_in, in-every}
 use Rattle.slots.specs.WorkingSlots.{rec, flat}
 use Rattle.slots.specs.Slots.{recs}
-use Rattle.slots.proofs.Records.{recs-length, recs-drop, recs-more, recs-flat, flat-length, flat-all, kind-rec}
+use Rattle.slots.proofs.Records.{recs-length, recs-chunks, recs-drop, recs-more, recs-flat, flat-length, flat-all}
 use Rattle.board.specs.WorkingRules.{Records, board_tests, board_ok, encode}
 use Rattle.board.specs.Rules.{filled_of, board_of}
 
@@ -58,51 +63,52 @@ board-recs s n e = ap (λ (k : ℕ). recs k s) e ∙ filled-recs (length s / 384
 
 -- ---- the rules judged record by record
 
--- i records of m are filled
-module _ (s : List ℕ) (m i : ℕ) (so : length (filled_of (recs m s)) ≡ i + length (filled_of (drop i (recs m s)))) where
-  filled_at : (t : Bool) → eqb (get_or s (i * 384) 0) 0 ≡ t → i < m → length (filled_of (recs m s)) ≡ i + length (pick t [] (rec i s ∷ filled_of (drop (i + 1) (recs m s))))
-  filled_at t e h = so ∙ ap (λ (k : ℕ). i + k) (ap (λ (l : List (List ℕ)). length (filled_of l)) (recs-drop m i s h) ∙ ap (λ (b : Bool). length (pick b [] (rec i s ∷ filled_of (drop (i + 1) (recs m s))))) (ap (λ (k : ℕ). eqb k 0) (kind-rec s i) ∙ e))
+-- those before the first empty one
+filled-taken : (l : List (List ℕ)) → take (prefix_len (λ r. not (eqb (kind r) 0)) l) l ≡ filled_of l
+filled-taken [] = refl
+filled-taken (r ∷ l) = go (eqb (kind r) 0) (filled-taken l)
+  where
+    go : (t : Bool) → take (prefix_len (λ r. not (eqb (kind r) 0)) l) l ≡ filled_of l → take (cond (not t) (1 + prefix_len (λ r. not (eqb (kind r) 0)) l) 0) (r ∷ l) ≡ pick t [] (r ∷ filled_of l)
+    go true h = refl
+    go false h = rw one-add (ap (λ (k : List (List ℕ)). r ∷ k) h)
 
-  pub filled-stop : m ≡ length s / 384 → i < m → get_or s (i * 384) 0 ≡ 0 → i ≡ length (board_of s)
-  unfolding board_of
-  filled-stop w h e = sym (add-zero i) ∙ sym (filled_at true (eq-eqb (get_or s (i * 384) 0) 0 e) h) ∙ ap (λ (k : ℕ). length (filled_of (recs k s))) w
-
-  pub filled_on : i < m → (get_or s (i * 384) 0 ≡ 0 → ⊥) → length (filled_of (recs m s)) ≡ i + 1 + length (filled_of (drop (i + 1) (recs m s)))
-  filled_on h e = let q = filled_at false (ne_eqb (get_or s (i * 384) 0) 0 e) h in omega arith
-
-  pub filled-end : m ≡ length s / 384 → m ≤ i → i ≤ m → m ≡ length (board_of s)
-  unfolding board_of
-  filled-end w h k =
-      let q : length (filled_of (drop i (recs m s))) ≡ 0 = ap (λ (l : List (List ℕ)). length (filled_of l)) (drop_of_length-le (recs m s) {i = i} (rw recs-length h)) in
-      let e : m ≡ length (filled_of (recs m s)) = omega arith in
-      e ∙ ap (λ (j : ℕ). length (filled_of (recs j s))) w
+pub filled-counted : (s : List ℕ) → length (take (prefix_len (λ r. not (eqb (kind r) 0)) (first_chunks 384 (length s / 384) s)) (first_chunks 384 (length s / 384) s)) ≡ length (board_of s)
+unfolding board_of
+filled-counted s = ap length (filled-taken (first_chunks 384 (length s / 384) s) ∙ ap filled_of (recs-chunks (length s / 384) s))
 
 ascending-short : (l : List (List ℕ)) → length l ≤ 1 → ascending l ≡ true
 ascending-short [] h = refl
 ascending-short (x ∷ []) h = refl
 ascending-short (x ∷ (y ∷ l)) h = absurd (not-suc-le-zero (le_of_suc-le-suc h))
 
--- the first i + 1 records of n are ascending
-module _ (s : List ℕ) (n i : ℕ) (so : ascending (recs n s) ≡ ascending (drop i (recs n s))) where
-  pub ascending-at : (o : Order) → o ≡ cmp (rec i s) (rec (i + 1) s) → i + 1 < n → ascending (recs n s) ≡ choose o (ascending (drop (i + 1) (recs n s))) false false
-  ascending-at o e h =
-      so
-      ∙ ap ascending (recs-drop n i s (omega arith) ∙ ap (λ (l : List (List ℕ)). rec i s ∷ l) (recs-drop n (i + 1) s h))
-      ∙ ap₂ (λ (p : Order) (l : List (List ℕ)). choose p (ascending l) false false) (sym e) (sym (recs-drop n (i + 1) s h))
+-- the first i records of n are ascending, and record i is compared with the one before it
+module _ (s : List ℕ) (n i : ℕ) (so : ascending (recs n s) ≡ ascending (drop (i - 1) (recs n s))) (some : 1 ≤ i) where
+  module _ (below : i < n) (o : Ordering) (e : o ≡ cmp (rec (i - 1) s) (rec i s)) where
+    ascending-at : ascending (recs n s) ≡ choose o (ascending (drop i (recs n s))) false false
+    ascending-at =
+        let q : i - 1 + 1 ≡ i = omega arith in
+        so
+        ∙ ap ascending (recs-drop n (i - 1) s (omega arith) ∙ ap (λ (k : ℕ). rec (i - 1) s ∷ drop k (recs n s)) q ∙ ap (λ (l : List (List ℕ)). rec (i - 1) s ∷ l) (recs-drop n i s below))
+        ∙ ap₂ (λ (p : Ordering) (l : List (List ℕ)). choose p (ascending l) false false) (sym e) (sym (recs-drop n i s below))
 
-  pub ascending-end : n ≤ i + 1 → true ≡ ascending (recs n s)
-  ascending-end h = sym (so ∙ ascending-short (drop i (recs n s)) (simp (length-drop, recs-length) (omega arith)))
+    pub ascending-stop : is_ge o ≡ true → false ≡ ascending (recs n s)
+    ascending-stop g = go o g ascending-at
+      where
+        go : (o : Ordering) → is_ge o ≡ true → ascending (recs n s) ≡ choose o (ascending (drop i (recs n s))) false false → false ≡ ascending (recs n s)
+        go Less g q = absurd (true≢false (sym g))
+        go Equal g q = sym q
+        go Greater g q = sym q
 
--- the first i records of n keep their rules
-module _ (s : List ℕ) (n i : ℕ) (so : every record_ok (recs n s) ≡ every record_ok (drop i (recs n s))) where
-  pub records-on : record_ok (rec i s) ≡ true → i < n → every record_ok (recs n s) ≡ every record_ok (drop (i + 1) (recs n s))
-  records-on e h = so ∙ ap (every record_ok) (recs-drop n i s h) ∙ every-step record_ok (rec i s) (drop (i + 1) (recs n s)) e
+    pub ascending-on : is_ge o ≡ false → ascending (recs n s) ≡ ascending (drop (i + 1 - 1) (recs n s))
+    ascending-on g = go o g ascending-at ∙ ap (λ (k : ℕ). ascending (drop k (recs n s))) (let q : i ≡ i + 1 - 1 = omega arith in q)
+      where
+        go : (o : Ordering) → is_ge o ≡ false → ascending (recs n s) ≡ choose o (ascending (drop i (recs n s))) false false → ascending (recs n s) ≡ ascending (drop i (recs n s))
+        go Less g q = q
+        go Equal g q = absurd (true≢false g)
+        go Greater g q = absurd (true≢false g)
 
-  pub records-stop : record_ok (rec i s) ≡ false → i < n → false ≡ every record_ok (recs n s)
-  records-stop e h = sym (so ∙ ap (every record_ok) (recs-drop n i s h) ∙ every-stop record_ok (rec i s) (drop (i + 1) (recs n s)) e)
-
-  pub records-end : n ≤ i → true ≡ every record_ok (recs n s)
-  records-end h = sym (so ∙ ap (every record_ok) (drop_of_length-le (recs n s) {i = i} (rw recs-length h)) ∙ every-none record_ok)
+  pub ascending-end : n ≤ i → true ≡ ascending (recs n s)
+  ascending-end h = sym (so ∙ ascending-short (drop (i - 1) (recs n s)) (simp (length-drop, recs-length) (omega arith)))
 
 -- what is left of a slice from index k on
 pub tail_all : (k : ℕ) (s : List ℕ) → take (length s - k) (drop k s) ≡ drop k s
@@ -124,6 +130,25 @@ board-rest s n z is low high whole a r e =
     (between_is 384 65280 (length s) low high, (eq-eqb (length s % 384) 0 whole, (ap ascending (sym (board-recs s n is)) ∙ sym a, (ap (every record_ok) (sym (board-recs s n is)) ∙ sym r, tt)))))
 
 -- ---- what the rules say
+
+-- the rules of the length hold; v is what the first two of the others say
+module _ (s : List ℕ) (n : ℕ) (is : n ≡ length (board_of s)) where
+  pub within : n * 384 ≤ length s
+  within = omega (arith, is, board-within s)
+
+  module _ (v : Bool) (both : v ≡ (ascending (recs n s) && every record_ok (recs n s))) where
+    pub rules-last : v ≡ true → 384 ≤ length s → length s ≤ 65280 → length s % 384 ≡ 0 → (z : Bool) → z ≡ zeros (take (length s - n * 384) (drop (n * 384) s)) → z ≡ board_ok s
+    rules-last h low high whole z e =
+        let t = sym both ∙ h in
+        board-rest s n z is low high whole (sym (and_left _ _ t)) (sym (and_right _ _ t)) (e ∙ ap zeros (tail_all (n * 384) s))
+
+    pub rules-broken : v ≡ false → v ≡ board_ok s
+    rules-broken h = h ∙ go (ascending (recs n s)) refl (every record_ok (recs n s)) refl (sym both ∙ h)
+      where
+        go : (a : Bool) → ascending (recs n s) ≡ a → (r : Bool) → every record_ok (recs n s) ≡ r → (a && r) ≡ false → false ≡ board_ok s
+        go true e true f q = absurd (true≢false q)
+        go true e false f q = board-broken 3 s (ap (every record_ok) (sym (board-recs s n is)) ∙ f)
+        go false e r f q = board-broken 2 s (ap ascending (sym (board-recs s n is)) ∙ e)
 
 pub record Kept (s : List ℕ) : Type 0 where
   pub low : 384 ≤ length s

@@ -18,8 +18,8 @@ use lib.Dec.{eqb}
 use lib.ListN.{length, get_or, take, drop, set, drop_of_length-le, length-drop, length-map, length-set}
 use lib.Seq.{sets, sets-eq, drop-drop, take_at, get_or-set_same, get_or-set_other}
 use borrow.Author.Tests.{eq-eqb, ne_eqb}
-use Rattle.octets.specs.declared.Order.{Order}
-use Rattle.octets.specs.declared.Order.TheVariants.{Less, Same, More}
+use Rattle.std.specs.declared.cmp.Ordering.{Ordering}
+use Rattle.std.specs.declared.cmp.Ordering.TheVariants.{Less, Equal, Greater}
 use Rattle.octets.specs.Bytes.{pick, same}
 use Rattle.octets.specs.Order.{cmp, choose}
 use Rattle.octets.proofs.Tests.{every_of, one-fails}
@@ -35,7 +35,10 @@ use Rattle.ledger.proofs.Scans.{Best, nothing, first, best, best-same, best-firs
 use Rattle.slots.specs.WorkingSlots.{rec}
 use Rattle.slots.specs.Slots.{recs}
 use Rattle.slots.proofs.Records.{recs-length, recs-get, recs-drop, recs-snoc, in-recs, rec-part}
-use Rattle.board.specs.WorkingMarks.{Marks}
+use Rattle.board.specs.WorkingMarks.{Marks, Scanned}
+use Rattle.std.specs.Prelude.{Option, Some, None, unwrap_or, IfSome}
+use Rattle.std.specs.Ordering.{is_lt}
+use Rattle.std.proofs.lemmas.Bool.{false≢true}
 
 -- ---- the fields of record i
 
@@ -78,9 +81,14 @@ pub unmarked : (b : List (List ℕ)) (h r : List ℕ) → live b r ≡ false →
 unfolding after
 unmarked b h r e = sym (one-fails 0 (live b r ∷ choose (cmp h (carried r)) true false false ∷ []) e)
 
-pub marked : (b : List (List ℕ)) (h r : List ℕ) (o : Order) → live b r ≡ true → o ≡ cmp h (carried r) → choose o true false false ≡ after b h r
+pub marked : (b : List (List ℕ)) (h r : List ℕ) (o : Ordering) → live b r ≡ true → o ≡ cmp h (carried r) → is_lt o ≡ after b h r
 unfolding after
-marked b h r o e f = ap (λ (x : Order). choose x true false false) f ∙ sym (last-decides (live b r ∷ []) (choose (cmp h (carried r)) true false false) (e, tt))
+marked b h r o e f = by o ∙ ap (λ (x : Ordering). choose x true false false) f ∙ sym (last-decides (live b r ∷ []) (choose (cmp h (carried r)) true false false) (e, tt))
+  where
+    by : (o : Ordering) → is_lt o ≡ choose o true false false
+    by Less = refl
+    by Equal = refl
+    by Greater = refl
 
 -- ---- the best of the first i records is j
 
@@ -105,24 +113,59 @@ module _ (p : List ℕ → Bool) (s : List ℕ) (n i j : ℕ) (pre : j ≡ best_
       go (nothing f z) = absurd (q (pre ∙ z))
       go (first h hs f is z t g) = omega (arith, recs-length i s)
 
-  pub go-by : p (rec i s) ≡ true → (j ≡ n → ⊥) → (o : Order) → o ≡ cmp (carried (rec i s)) (carried (rec j s)) → choose o i j j ≡ best_of n p (recs (i + 1) s)
+  pub go-by : p (rec i s) ≡ true → (j ≡ n → ⊥) → (o : Ordering) → o ≡ cmp (carried (rec i s)) (carried (rec j s)) → choose o i j j ≡ best_of n p (recs (i + 1) s)
   go-by e q o c = go (best n p (recs i s)) o c
     where
-      go : Best n p (recs i s) → (o : Order) → o ≡ cmp (carried (rec i s)) (carried (rec j s)) → choose o i j j ≡ best_of n p (recs (i + 1) s)
+      go : Best n p (recs i s) → (o : Ordering) → o ≡ cmp (carried (rec i s)) (carried (rec j s)) → choose o i j j ≡ best_of n p (recs (i + 1) s)
       go (nothing f z) o c = absurd (q (pre ∙ z))
       go (first h hs f is z t g) o c = by o (c ∙ ap (cmp (carried (rec i s))) head-is)
         where
           head-is : carried (rec j s) ≡ h
           head-is = sym (ap carried (ap (λ (k : ℕ). get_or (recs i s) k []) (sym pre) ∙ recs-get i j s (go-within q))) ∙ g
 
-          by : (o : Order) → o ≡ cmp (carried (rec i s)) h → choose o i j j ≡ best_of n p (recs (i + 1) s)
+          by : (o : Ordering) → o ≡ cmp (carried (rec i s)) h → choose o i j j ≡ best_of n p (recs (i + 1) s)
           by Less c = sym (recs-length i s) ∙ best-less n p (recs i s) (rec i s) e h hs f c ∙ next-is
-          by Same c = pre ∙ best-equal n p (recs i s) (rec i s) e h hs f c ∙ next-is
-          by More c = pre ∙ best-more n p (recs i s) (rec i s) e h hs f c ∙ next-is
+          by Equal c = pre ∙ best-equal n p (recs i s) (rec i s) e h hs f c ∙ next-is
+          by Greater c = pre ∙ best-more n p (recs i s) (rec i s) e h hs f c ∙ next-is
 
 pub best-start : (n : ℕ) (p : List ℕ → Bool) → n ≡ best_of n p []
 unfolding best_of
 best-start n p = refl
+
+-- the answer o of a scan of the first i records, and record i
+module _ (p : List ℕ → Bool) (s : List ℕ) (n i : ℕ) (o : Option ℕ) (w : Scanned n p (recs i s) o) (below : i < n) where
+  pub scan-passed : p (rec i s) ≡ false → Scanned n p (recs (i + 1) s) o
+  scan-passed e = (go_same p s n i (unwrap_or o n) w.0 below e, w.1)
+
+  pub scan-first : p (rec i s) ≡ true → o ≡ None → Scanned n p (recs (i + 1) s) (Some i)
+  scan-first e z = (go-first p s n i (unwrap_or o n) w.0 below e (ap (λ (x : Option ℕ). unwrap_or x n) z), below)
+
+  module _ (j : ℕ) (z : o ≡ Some j) where
+    pub scan-within : j < n
+    scan-within = subst (λ (x : Option ℕ). IfSome x (λ k. k < n)) z w.1
+
+    here : j ≡ best_of n p (recs i s)
+    here = sym (ap (λ (x : Option ℕ). unwrap_or x n) z) ∙ w.0
+
+    module _ (e : p (rec i s) ≡ true) (c : Ordering) (is : c ≡ cmp (carried (rec i s)) (carried (rec j s))) where
+      at : choose c i j j ≡ best_of n p (recs (i + 1) s)
+      at = go-by p s n i j here below e (λ q. let k = scan-within in omega arith) c is
+
+      pub scan-less : is_lt c ≡ true → Scanned n p (recs (i + 1) s) (Some i)
+      scan-less l = (less c l at, below)
+        where
+          less : (c : Ordering) → is_lt c ≡ true → choose c i j j ≡ best_of n p (recs (i + 1) s) → i ≡ best_of n p (recs (i + 1) s)
+          less Less l q = q
+          less Equal l q = absurd (false≢true l)
+          less Greater l q = absurd (false≢true l)
+
+      pub scan-kept : is_lt c ≡ false → Scanned n p (recs (i + 1) s) (Some j)
+      scan-kept l = (kept c l at, scan-within)
+        where
+          kept : (c : Ordering) → is_lt c ≡ false → choose c i j j ≡ best_of n p (recs (i + 1) s) → j ≡ best_of n p (recs (i + 1) s)
+          kept Less l q = absurd (false≢true (sym l))
+          kept Equal l q = q
+          kept Greater l q = q
 
 before-any : (l : List ℕ) → 0 < length l → cmp [] l ≡ Less
 before-any [] h = absurd (omega arith)
@@ -149,28 +192,21 @@ find n s g j e = go (best n (after (recs n s) g) (recs n s))
 
 -- ---- how many carry the header h
 
-alike_is : (p : List ℕ → Bool) (h r : List ℕ) (t : Bool) → carries p h r ≡ t → pick {A = ℕ} t 1 0 ≡ pick (carries p h r) 1 0
-alike_is p h r t e = ap (λ (x : Bool). pick {A = ℕ} x 1 0) (sym e)
-
-pub not_alike : (p : List ℕ → Bool) (h r : List ℕ) → p r ≡ false → ◌≡◌ {A = ℕ} 0 (pick (carries p h r) 1 0)
+pub not_alike : (p : List ℕ → Bool) (h r : List ℕ) → p r ≡ false → carries p h r ≡ false
 unfolding carries
-not_alike p h r e = alike_is p h r false (one-fails 0 (p r ∷ same (carried r) h ∷ []) e)
+not_alike p h r e = one-fails 0 (p r ∷ same (carried r) h ∷ []) e
 
-pub other-header : (p : List ℕ → Bool) (h r : List ℕ) → same (carried r) h ≡ false → ◌≡◌ {A = ℕ} 0 (pick (carries p h r) 1 0)
+pub alike-by : (p : List ℕ → Bool) (h r : List ℕ) → p r ≡ true → same (carried r) h ≡ carries p h r
 unfolding carries
-other-header p h r e = alike_is p h r false (one-fails 1 (p r ∷ same (carried r) h ∷ []) e)
-
-pub alike-yes : (p : List ℕ → Bool) (h r : List ℕ) → p r ≡ true → same (carried r) h ≡ true → ◌≡◌ {A = ℕ} 1 (pick (carries p h r) 1 0)
-unfolding carries
-alike-yes p h r e f = alike_is p h r true (every_of (p r ∷ same (carried r) h ∷ []) (e, (f, tt)))
+alike-by p h r e = sym (last-decides (p r ∷ []) (same (carried r) h) (e, tt))
 
 module _ (p : List ℕ → Bool) (h s : List ℕ) (n i k : ℕ) (so : k + count_of p h (drop i (recs n s)) ≡ count_of p h (recs n s)) where
-  pub count-on : (a : ℕ) → i < n → a ≡ pick (carries p h (rec i s)) 1 0 → k + a + count_of p h (drop (i + 1) (recs n s)) ≡ count_of p h (recs n s)
-  count-on a l e = go (carries p h (rec i s)) e (sym (ap (count_of p h) (recs-drop n i s l)))
+  pub count-on : (t : Bool) → i < n → t ≡ carries p h (rec i s) → pick t (k + 1) k + count_of p h (drop (i + 1) (recs n s)) ≡ count_of p h (recs n s)
+  count-on t l e = go t (ap (λ (x : Bool). pick x (suc (count_of p h (drop (i + 1) (recs n s)))) (count_of p h (drop (i + 1) (recs n s)))) e ∙ sym (ap (count_of p h) (recs-drop n i s l)))
     where
-      go : (t : Bool) → a ≡ pick t 1 0 → pick t (suc (count_of p h (drop (i + 1) (recs n s)))) (count_of p h (drop (i + 1) (recs n s))) ≡ count_of p h (drop i (recs n s)) → k + a + count_of p h (drop (i + 1) (recs n s)) ≡ count_of p h (recs n s)
-      go true e q = omega arith
-      go false e q = omega arith
+      go : (t : Bool) → pick t (suc (count_of p h (drop (i + 1) (recs n s)))) (count_of p h (drop (i + 1) (recs n s))) ≡ count_of p h (drop i (recs n s)) → pick t (k + 1) k + count_of p h (drop (i + 1) (recs n s)) ≡ count_of p h (recs n s)
+      go true q = omega arith
+      go false q = omega arith
 
   pub count-end : n ≤ i → k ≡ count_of p h (recs n s)
   count-end l = let q : count_of p h (drop i (recs n s)) ≡ 0 = ap (count_of p h) (drop_of_length-le (recs n s) {i = i} (rw recs-length l)) in omega arith
@@ -201,6 +237,14 @@ stand-start n s start j h e = record { behind = []; scanned = e; left = start-du
 pub due-most : (n : ℕ) (s : List ℕ) → length (due (recs n s)) ≤ n
 unfolding due
 due-most n s = omega (arith, ordered-length (live (recs n s)) (recs n s), recs-length n s)
+
+-- the scan answers o: a header more, or none
+module _ (n : ℕ) (s : List ℕ) (start out : List Row) (k : ℕ) (o : Option ℕ) (below : IfSome o (λ j. j < n)) (w : Standing n s start out k (unwrap_or o n)) where
+  pub stands-at : (j : ℕ) → o ≡ Some j → (j < n) × Standing n s start out k j
+  stands-at j e = (subst (λ (x : Option ℕ). IfSome x (λ i. i < n)) e below, subst (λ (x : Option ℕ). Standing n s start out k (unwrap_or x n)) e w)
+
+  pub stands-last : o ≡ None → Standing n s start out k n
+  stands-last e = subst (λ (x : Option ℕ). Standing n s start out k (unwrap_or x n)) e w
 
 module _ (n : ℕ) (s : List ℕ) (start out : List Row) (k j : ℕ) (w : Standing n s start out k j) where
   pub found-now : Found n s w.behind j

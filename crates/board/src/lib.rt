@@ -1,28 +1,29 @@
 // The board in lent bytes: its rules, an offer of records, the hand-out of the first due header, and the list of the due headers.
 #![tactic(auto)]
 
-ghost use Rattle.std.specs.Prelude.{◌≡◌, false, [], ◌+◌, ◌*◌, ◌≤◌, ◌<◌, leb, length, take};
+ghost use Rattle.std.specs.Prelude.{◌≡◌, false, [], ◌+◌, ◌*◌, ◌≤◌, ◌<◌, length, take};
 ghost use Rattle.std.proofs.lemmas.List.Edits.{sets};
-ghost use Rattle.octets.specs.Bytes.{pick, every};
+ghost use Rattle.octets.specs.Bytes.{every};
 ghost use Rattle.records.specs.Record.{record_ok, carried, aired};
 ghost use Rattle.ledger.specs.Sorted.{ascending};
 ghost use Rattle.ledger.specs.WorkingBoard.{live, carries, count_of, rows_of};
-ghost use Rattle.ledger.specs.WorkingScan.{after, best_of};
+ghost use Rattle.ledger.specs.WorkingScan.{after};
 ghost use Rattle.slots.specs.WorkingSlots.{rec};
 ghost use Rattle.slots.specs.Slots.{recs};
 ghost use Rattle.board.specs.Rules.{board_of};
 ghost use Rattle.board.specs.WorkingRules.{board_ok, added};
 ghost use Rattle.board.specs.WorkingCalls.{offer_of, hand_of, list_refused, list_of, blanks};
-ghost use Rattle.board.specs.WorkingMarks.{Marks};
+ghost use Rattle.board.specs.WorkingMarks.{Marks, Scanned};
 
 use ledger::Row;
-use octets::Order;
 use records::Record;
 
 // The most records that a board holds, and their bytes.
 const MOST: usize = 170;
 
 const BYTES: usize = 65280;
+
+// Answers with numbers and not Results: offer_of, hand_of and list_of promise the numbers 0, 1, 2, 15 and 16 with zeros beside a refusal, as the C interface hands them out.
 
 // What an offer of records answers: how many were added.
 #[derive(Drop)]
@@ -58,16 +59,8 @@ pub struct Rows {
 pub fn filled(s: &[u8]) -> usize
     ensures { result ≡ length (board_of s.now) }
 {
-    let m = s.len() / Record::SIZE;
-    let mut i: usize = 0;
-    while i < m {
-        let at = i * Record::SIZE;
-        if s[at] == 0 {
-            return i;
-        }
-        i += 1;
-    }
-    m
+    let records: &[[u8; Record::SIZE]] = s.as_chunks().0;
+    records.iter().take_while(|r| r[Record::KIND] != 0).count()
 }
 
 // Whether the first n records are strictly ascending.
@@ -75,14 +68,11 @@ fn is_ascending(s: &[u8], n: usize) -> bool
     requires { n * 384 ≤ length s.now }
     ensures { result ≡ ascending (recs n s.now) }
 {
-    let mut i: usize = 0;
-    while i + 1 < n {
-        match octets::compare(slots::record_at(s, i), slots::record_at(s, i + 1)) {
-            Order::Less => {}
-            Order::Same => return false,
-            Order::More => return false,
+    // Neighbours by their indices: a window of two arrays says it no plainer.
+    for i in 1..n {
+        if octets::compare(slots::record_at(s, i - 1), slots::record_at(s, i)).is_ge() {
+            return false;
         }
-        i += 1;
     }
     true
 }
@@ -92,14 +82,7 @@ fn are_records(s: &[u8], n: usize) -> bool
     requires { n * 384 ≤ length s.now }
     ensures { result ≡ every record_ok (recs n s.now) }
 {
-    let mut i: usize = 0;
-    while i < n {
-        if !records::is_record(slots::record_at(s, i)) {
-            return false;
-        }
-        i += 1;
-    }
-    true
+    slots::first(s, n).iter().all(|r| records::is_record(r))
 }
 
 // Whether a board with n filled records keeps the rules.
@@ -108,23 +91,10 @@ fn keeps_rules(s: &[u8], n: usize) -> bool
     ensures { result ≡ board_ok s.now }
 {
     let len = s.len();
-    if len < Record::SIZE {
+    if len < Record::SIZE || BYTES < len || len % Record::SIZE != 0 {
         return false;
     }
-    if BYTES < len {
-        return false;
-    }
-    if len % Record::SIZE != 0 {
-        return false;
-    }
-    if !is_ascending(s, n) {
-        return false;
-    }
-    if !are_records(s, n) {
-        return false;
-    }
-    let at = n * Record::SIZE;
-    records::are_zeros(&s[at..])
+    is_ascending(s, n) && are_records(s, n) && records::are_zeros(&s[n * Record::SIZE..])
 }
 
 // Whether a board keeps the rules.
@@ -175,14 +145,8 @@ fn is_live(s: &[u8], n: usize, i: usize) -> bool
     if s[at] != Record::NOTICE {
         return false;
     }
-    let from = at + Record::SENT;
-    let to = at + Record::HEADER;
-    let w = records::withdrawal_of(&s[from..to]);
-    if slots::holds(s, n, &w.bytes) {
-        return false;
-    }
-    let a = slots::aired_at(s, i);
-    !slots::holds(s, n, &a.bytes)
+    let w = records::withdrawal_of(&s[at + Record::SENT..at + Record::HEADER]);
+    !slots::holds(s, n, &w.bytes) && !slots::holds(s, n, &slots::aired_at(s, i).bytes)
 }
 
 // Which of the first n records are live.
@@ -191,80 +155,114 @@ fn live_marks(s: &[u8], n: usize) -> [bool; MOST]
     ensures { Marks (live (recs n s.now)) (recs n s.now) result }
 {
     let mut marks = [false; MOST];
-    let mut i: usize = 0;
-    while i < n {
+    // By index: a proof knows nothing of what is written through an iterator.
+    for i in 0..n {
         marks[i] = is_live(s, n, i);
-        i += 1;
     }
     marks
 }
 
-// Whether record i is live, with a header that comes after `last`.
-fn comes_after(s: &[u8], n: usize, marks: &[bool; MOST], last: &[u8], i: usize) -> bool
-    requires { (n * 384 ≤ length s.now) × (n ≤ 170) × (i < n) × Marks (live (recs n s.now)) (recs n s.now) marks.now }
-    ensures { result ≡ after (recs n s.now) last.now (rec i s.now) }
-{
-    if !marks[i] {
-        return false;
-    }
-    match slots::compare_header(last, s, i) {
-        Order::Less => true,
-        Order::Same => false,
-        Order::More => false,
-    }
+// The first n records, and for each a mark that says whether it is live.
+#[derive(Drop)]
+struct Marked<'a> {
+    s: &'a [u8],
+    n: usize,
+    marks: [bool; MOST],
+    ghost within: { n * 384 ≤ length s.now },
+    ghost few: { n ≤ 170 },
+    ghost told: { Marks (live (recs n s.now)) (recs n s.now) marks },
 }
 
-// The better of the best so far and record i. Where there is none yet, best is n.
-fn better(s: &[u8], n: usize, marks: &[bool; MOST], last: &[u8], best: usize, i: usize) -> usize
-    requires n_in_bounds { (n * 384 ≤ length s.now) × (n ≤ 170) × (i < n) × Marks (live (recs n s.now)) (recs n s.now) marks.now }
-    requires best_value { best ≡ best_of n (after (recs n s.now) last.now) (recs i s.now) }
-    ensures { result ≡ best_of n (after (recs n s.now) last.now) (recs (i + 1) s.now) }
-{
-    if !comes_after(s, n, marks, last, i) {
-        return best;
+impl<'a> Marked<'a> {
+    fn new(s: &'a [u8], n: usize) -> Marked<'a>
+        requires { (n * 384 ≤ length s.now) × (n ≤ 170) }
+        ensures bytes { result.s.now ≡ s.now }
+        ensures count { result.n ≡ n }
+    {
+        Marked {
+            s,
+            n,
+            marks: live_marks(s, n),
+        }
     }
-    if best == n {
-        return i;
-    }
-    match slots::compare_headers(s, i, best) {
-        Order::Less => i,
-        Order::Same => best,
-        Order::More => best,
-    }
-}
 
-// The index of the smallest notice that makes the first due header after `last` due, or n where there is none.
-fn first_after(s: &[u8], n: usize, marks: &[bool; MOST], last: &[u8]) -> usize
-    requires { (n * 384 ≤ length s.now) × (n ≤ 170) × Marks (live (recs n s.now)) (recs n s.now) marks.now }
-    ensures { result ≡ best_of n (after (recs n s.now) last.now) (recs n s.now) }
-{
-    let mut best = n;
-    let mut i: usize = 0;
-    while i < n {
-        best = better(s, n, marks, last, best, i);
-        i += 1;
+    // Whether record i is live, with a header that comes after `last`.
+    fn comes_after(&self, last: &[u8], i: usize) -> bool
+        requires { i < self.now.n }
+        ensures { result ≡ after (recs self.now.n self.now.s.now) last.now (rec i self.now.s.now) }
+    {
+        self.marks[i] && slots::compare_header(last, self.s, i).is_lt()
     }
-    best
-}
 
-// The same for the first due header after that of record j.
-fn next_after(s: &[u8], n: usize, marks: &[bool; MOST], j: usize) -> usize
-    requires { (n * 384 ≤ length s.now) × (n ≤ 170) × (j < n) × Marks (live (recs n s.now)) (recs n s.now) marks.now }
-    ensures { result ≡ best_of n (after (recs n s.now) (carried (rec j s.now))) (recs n s.now) }
-{
-    let h = slots::header_at(s, j);
-    first_after(s, n, marks, &h)
+    // The better of the best so far and record i.
+    fn better(&self, last: &[u8], best: Option<usize>, i: usize) -> Option<usize>
+        requires below { i < self.now.n }
+        requires best_value { Scanned self.now.n (after (recs self.now.n self.now.s.now) last.now) (recs i self.now.s.now) best }
+        ensures { Scanned self.now.n (after (recs self.now.n self.now.s.now) last.now) (recs (i + 1) self.now.s.now) result }
+    {
+        if !self.comes_after(last, i) {
+            return best;
+        }
+        let Some(j) = best else {
+            return Some(i);
+        };
+        if slots::compare_headers(self.s, i, j).is_lt() {
+            return Some(i);
+        }
+        best
+    }
+
+    // The index of the smallest notice that makes the first due header after `last` due.
+    fn first_after(&self, last: &[u8]) -> Option<usize>
+        ensures { Scanned self.now.n (after (recs self.now.n self.now.s.now) last.now) (recs self.now.n self.now.s.now) result }
+    {
+        let mut best = None;
+        for i in 0..self.n {
+            best = self.better(last, best, i);
+        }
+        best
+    }
+
+    // The same for the first due header after that of record j.
+    fn next_after(&self, j: usize) -> Option<usize>
+        requires { j < self.now.n }
+        ensures { Scanned self.now.n (after (recs self.now.n self.now.s.now) (carried (rec j self.now.s.now))) (recs self.now.n self.now.s.now) result }
+    {
+        self.first_after(&slots::header_at(self.s, j))
+    }
+
+    // Whether record i is live with the header of record j.
+    fn alike(&self, j: usize, i: usize) -> bool
+        requires { (j < self.now.n) × (i < self.now.n) }
+        ensures { result ≡ carries (live (recs self.now.n self.now.s.now)) (carried (rec j self.now.s.now)) (rec i self.now.s.now) }
+    {
+        self.marks[i] && slots::same_header(self.s, i, j)
+    }
+
+    // How many records are live with the header of record j.
+    fn count_alike(&self, j: usize) -> usize
+        requires { j < self.now.n }
+        ensures value { result ≡ count_of (live (recs self.now.n self.now.s.now)) (carried (rec j self.now.s.now)) (recs self.now.n self.now.s.now) }
+        ensures upper_bound { result ≤ self.now.n }
+    {
+        let mut count = 0;
+        for i in 0..self.n {
+            if self.alike(j, i) {
+                count += 1;
+            }
+        }
+        count
+    }
 }
 
 // ---- the hand-out
 
-// The index of the smallest notice that makes the first due header due, or n where nothing is due.
-fn first_due(s: &[u8], n: usize) -> usize
+// The index of the smallest notice that makes the first due header due.
+fn first_due(s: &[u8], n: usize) -> Option<usize>
     requires { (n * 384 ≤ length s.now) × (n ≤ 170) }
-    ensures { result ≡ best_of n (after (recs n s.now) []) (recs n s.now) }
+    ensures { Scanned n (after (recs n s.now) []) (recs n s.now) result }
 {
-    let marks = live_marks(s, n);
-    first_after(s, n, &marks, &s[0..0])
+    Marked::new(s, n).first_after(&[])
 }
 
 // Adds the aired record of record j's header to the first n records.
@@ -289,13 +287,12 @@ pub fn hand_out(s: &mut [u8]) -> Handed
             index: 0,
         };
     }
-    let j = first_due(s, n);
-    if j == n {
+    let Some(j) = first_due(s, n) else {
         return Handed {
             number: 16,
             index: 0,
         };
-    }
+    };
     if s.len() < (n + 1) * Record::SIZE {
         return Handed {
             number: 15,
@@ -311,36 +308,6 @@ pub fn hand_out(s: &mut [u8]) -> Handed
 
 // ---- the list
 
-// 1 where record i is live with the header of record j, else 0.
-fn alike(s: &[u8], n: usize, marks: &[bool; MOST], j: usize, i: usize) -> usize
-    requires { (n * 384 ≤ length s.now) × (n ≤ 170) × (j < n) × (i < n) × Marks (live (recs n s.now)) (recs n s.now) marks.now }
-    ensures value { result ≡ pick (carries (live (recs n s.now)) (carried (rec j s.now)) (rec i s.now)) 1 0 }
-    ensures upper_bound { result ≤ 1 }
-{
-    if !marks[i] {
-        return 0;
-    }
-    if !slots::same_header(s, i, j) {
-        return 0;
-    }
-    1
-}
-
-// How many of the first n records are live with the header of record j.
-fn count_alike(s: &[u8], n: usize, marks: &[bool; MOST], j: usize) -> usize
-    requires { (n * 384 ≤ length s.now) × (n ≤ 170) × (j < n) × Marks (live (recs n s.now)) (recs n s.now) marks.now }
-    ensures value { result ≡ count_of (live (recs n s.now)) (carried (rec j s.now)) (recs n s.now) }
-    ensures upper_bound { result ≤ n }
-{
-    let mut k: usize = 0;
-    let mut i: usize = 0;
-    while i < n {
-        k = k + alike(s, n, marks, j, i);
-        i += 1;
-    }
-    k
-}
-
 // The rows of the due headers among the first n records.
 fn due_rows(s: &[u8], n: usize) -> Rows
     requires { (n * 384 ≤ length s.now) × (n ≤ 170) }
@@ -349,30 +316,32 @@ fn due_rows(s: &[u8], n: usize) -> Rows
     ensures rows_value { take result.answer.count result.rows ≡ rows_of (recs n s.now) }
     ensures count_bound { result.answer.count ≤ 170 }
 {
-    let marks = live_marks(s, n);
+    let marked = Marked::new(s, n);
     let mut rows = [Row { index: 0, count: 0 }; MOST];
-    let mut k: usize = 0;
-    let mut j = first_after(s, n, &marks, &s[0..0]);
-    while j < n {
-        let count = count_alike(s, n, &marks, j);
-        rows[k] = Row { index: j, count };
-        k += 1;
-        j = next_after(s, n, &marks, j);
+    let mut count = 0;
+    let mut next = marked.first_after(&[]);
+    while let Some(j) = next {
+        rows[count] = Row {
+            index: j,
+            count: marked.count_alike(j),
+        };
+        count += 1;
+        next = marked.next_after(j);
     }
-    let answer = Listed {
-        number: 0,
-        count: k,
-    };
-    Rows { answer, rows }
+    Rows {
+        answer: Listed { number: 0, count },
+        rows,
+    }
 }
 
 // A refusal, which has no rows.
 fn refused(number: u32) -> Rows
     ensures { result.answer ≡ (list_refused number).answer }
 {
-    let answer = Listed { number, count: 0 };
-    let rows = [Row { index: 0, count: 0 }; MOST];
-    Rows { answer, rows }
+    Rows {
+        answer: Listed { number, count: 0 },
+        rows: [Row { index: 0, count: 0 }; MOST],
+    }
 }
 
 // What the list answers with so many rows lent, and the rows: none on a refusal.
@@ -398,26 +367,10 @@ pub fn list(s: &[u8], rows: &mut [Row]) -> Listed
     ensures rows_after { rows.new ≡ sets rows.old 0 (list_of s.now (length rows.old)).rows }
     ensures number_bound { (result.number ≤ 17) × (result.count ≤ 170) }
 {
-    let l = listing(s, rows.len());
-    let due = l.rows;
-    let answer = l.answer;
-    let n = answer.count;
-    let mut k: usize = 0;
-    while k < n {
-        rows[k] = due[k];
-        k += 1;
-    }
-    answer
-}
-
-// As many rows as are asked for, or as a board can have due headers.
-fn lent(room: usize) -> usize
-    ensures { result ≡ pick (leb 170 room) 170 room }
-{
-    if MOST <= room {
-        return MOST;
-    }
-    room
+    let due = listing(s, rows.len());
+    let n = due.answer.count;
+    rows[..n].copy_from_slice(&due.rows[..n]);
+    due.answer
 }
 
 // The list into so many rows of an array of its own.
@@ -427,7 +380,8 @@ pub fn list_rows(s: &[u8], room: usize) -> Rows
     ensures number_bound { (result.answer.number ≤ 17) × (result.answer.count ≤ 170) }
 {
     let mut rows = [Row { index: 0, count: 0 }; MOST];
-    let m = lent(room);
+    // a board has no more due headers than it has records
+    let m = room.min(MOST);
     let answer = list(s, &mut rows[..m]);
     Rows { answer, rows }
 }

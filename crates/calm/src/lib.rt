@@ -7,19 +7,11 @@ ghost use Rattle.std.proofs.lemmas.List.Edits.{sets};
 ghost use Rattle.calm.specs.WorkingCalm.{is_mark, is_calm, calm_at, Calm, soft, soft_at};
 
 // What is above `<` first, which most bytes of a text are.
+#[tactic(auto, unfolding(crate::specs::WorkingCalm::is_mark, octets::specs::Bytes::is_visible, octets::specs::Bytes::between, octets::specs::Bytes::every, octets::specs::Bytes::one_of))]
 pub fn is_mark(b: u8) -> bool
     ensures { result ≡ is_mark b }
 {
-    if 60 < b {
-        return b <= 126;
-    }
-    if b == 60 {
-        return false;
-    }
-    if b == 38 {
-        return false;
-    }
-    33 <= b
+    (b'='..=b'~').contains(&b) || matches!(b, b'!'..=b'%' | b'\''..=b';')
 }
 
 // ---- blocks, whose tests have no branch, so that a compiler can make them for all bytes of a block at once
@@ -29,7 +21,10 @@ fn odd(b: u8) -> u8
     ensures b_value { result ≡ 0 → is_mark b ≡ true }
     ensures upper_bound { result ≤ 4 }
 {
-    octets::under(b, 33) + octets::under(126, b) + octets::equals(b, 38) + octets::equals(b, 60)
+    octets::under(b, b'!')
+        + octets::under(b'~', b)
+        + octets::equals(b, b'&')
+        + octets::equals(b, b'<')
 }
 
 // 0 only for a byte b that is calm before c.
@@ -39,7 +34,7 @@ fn stirs(b: u8, c: u8) -> u8
 {
     let x = odd(b);
     let y = odd(c);
-    if octets::equals(b, 32) + octets::equals(b, 10) == 0 {
+    if octets::equals(b, b' ') + octets::equals(b, b'\n') == 0 {
         x
     } else {
         y
@@ -51,38 +46,24 @@ fn is_block(s: &[u8], at: usize) -> bool
     requires { at + 17 ≤ length s.now }
     ensures { result ≡ true → Calm s.now at 16 }
 {
-    let mut n: u8 = 0;
-    let mut k: usize = 0;
-    while k < 16 {
-        n = n + stirs(s[at + k], s[at + k + 1]);
-        k += 1;
+    let mut n = 0;
+    for k in 0..16 {
+        n += stirs(s[at + k], s[at + k + 1]);
     }
     n == 0
 }
 
-// How many bytes from `at` on stand in calm blocks, of the first g.
+// How many bytes from `at` on stand in calm blocks, of the first g. The last byte of a block is told with the byte behind it.
 pub fn calm_blocks(s: &[u8], at: usize, g: usize) -> usize
     ensures { (result ≤ g) × Calm s.now at result }
 {
-    let mut n: usize = 0;
-    loop {
-        if g - n < 16 {
-            return n;
+    let room = s.len().saturating_sub(at).saturating_sub(1).min(g);
+    for k in 0..room / 16 {
+        if !is_block(s, at + 16 * k) {
+            return 16 * k;
         }
-        if s.len() < 17 {
-            return n;
-        }
-        if s.len() - 17 < at {
-            return n;
-        }
-        if s.len() - 17 - at < n {
-            return n;
-        }
-        if !is_block(s, at + n) {
-            return n;
-        }
-        n += 16;
     }
+    room / 16 * 16
 }
 
 // ---- runs
@@ -91,33 +72,25 @@ pub fn is_calm(s: &[u8], i: usize) -> bool
     ensures { result ≡ calm_at s.now i }
 {
     let b = octets::byte(s, i);
-    if is_mark(b) {
-        return true;
-    }
-    if !octets::is_space(b) {
-        return false;
-    }
-    is_mark(octets::byte(s, i + 1))
+    is_mark(b) || octets::is_space(b) && is_mark(octets::byte(s, i + 1))
 }
 
 // How many bytes from `at` on are calm, of the first g.
 pub fn calm(s: &[u8], at: usize, g: usize) -> usize
     ensures { (result ≤ g) × Calm s.now at result }
 {
-    let mut n = calm_blocks(s, at, g);
-    while n < g {
+    for n in calm_blocks(s, at, g)..g {
         if !is_calm(s, at + n) {
             return n;
         }
-        n += 1;
     }
-    n
+    g
 }
 
 fn softened(b: u8) -> u8
     ensures { result ≡ soft b }
 {
-    if b < 33 { 32 } else { b }
+    b.max(b' ')
 }
 
 // Puts the n calm bytes from i into `out` from `e` on, white space as a space.
@@ -126,9 +99,7 @@ pub fn put_calm(s: &[u8], i: usize, n: usize, out: &mut [u8], e: usize)
     requires n_in_bounds { e + n ≤ length out.old }
     ensures { out.new ≡ sets out.old e (soft_at s.now i n) }
 {
-    let mut k: usize = 0;
-    while k < n {
+    for k in 0..n {
         out[e + k] = softened(s[i + k]);
-        k += 1;
     }
 }

@@ -33,8 +33,7 @@ fn put_text(
     if n.count == 0 {
         return 0;
     }
-    let r = wording::put_plain(s, instruction, out, n);
-    r.at
+    wording::put_plain(s, instruction, out, n).at
 }
 
 // Writes what a message gives that passed 4 to 9. Where it has no text nothing is written, and the number is 18.
@@ -46,28 +45,27 @@ fn write(s: &[u8], m: Message, text: &mut [u8], uri: &mut [u8]) -> TextAudio
     ensures text_after { text.new ≡ sets text.old 0 (words_given s.now m).given.text }
     ensures uri_after { uri.new ≡ sets uri.old 0 (words_given s.now m).given.uri }
 {
-    let a = m.alert;
-    let i = a.info;
-    let audio = i.audio;
-    let parameters = i.parameters;
-    let broadcast = parameters.leaf[reads::BROADCAST_TEXT];
-    let description = i.leaf[reads::DESCRIPTION];
-    let instruction = i.leaf[reads::INSTRUCTION];
-    let long = put_text(s, broadcast.at, description.at, instruction.at, text);
+    let info = m.alert.info;
+    let long = put_text(
+        s,
+        info.parameters.leaf[reads::BROADCAST_TEXT].at,
+        info.leaf[reads::DESCRIPTION].at,
+        info.leaf[reads::INSTRUCTION].at,
+        text,
+    );
     if long == 0 {
         return outputs::answer_alone(18, m.field);
     }
-    let linked = outputs::put_uri(s, audio, uri);
     TextAudio {
         number: 0,
         field: m.field,
-        audio: audio.number,
-        uri: linked,
+        audio: info.audio.number,
+        uri: outputs::put_uri(s, info.audio, uri),
         text: long,
     }
 }
 
-// Converts a message: numbers 2, 4 to 9 and 18, and the text and the uri from the start of each output, or nothing.
+// Converts a message, as `convert::text` does without a station, a quiet Cancel or a header: numbers 2, 4 to 9 and 18, and the text and the uri from the start of each output, or nothing.
 pub fn convert(message: &[u8], text: &mut [u8], uri: &mut [u8]) -> TextAudio
     ensures value { result ≡ text_answer_of (canadian_of message.now (length text.old) (length uri.old)) }
     ensures text_after { text.new ≡ sets text.old 0 (canadian_of message.now (length text.old) (length uri.old)).given.text }

@@ -1,108 +1,67 @@
 // The case line `message`: what is found in a message.
+use crate::lines::{self, Answer, Hex};
 use fields::MsgType;
-use reads::{Alert, Audio, Events, Info, Kept, Leaf, Locations, Parameters};
+use reads::{Alert, Info, Kept, Leaf, Locations};
+use std::fmt;
+use std::fmt::Write;
 
 // The longest message that is read, which is longer than a legal one.
 const LONGEST: usize = 32770;
 
-// A colon and the first 40 characters of the value at `place`, in UTF-8, in hexadecimal.
-fn put_value(s: &[u8], place: usize, out: &mut [u8], at: usize) -> usize {
+// A number, a colon and the first 40 characters of the value at `place`, in UTF-8, in hexadecimal.
+fn put_value(s: &[u8], number: u32, place: usize, out: &mut Answer) -> fmt::Result {
     let mut value = [0u8; 160];
     let first = values::lead(s, place);
     let spelled = values::spell(s, first, 40, &mut value, 0);
-    let end = crate::lines::put(out, at, b":");
-    crate::lines::put_hex(out, end, crate::lines::front(&value, spelled.end))
+    let written = lines::front(&value, spelled.end);
+    write!(out, " {number}:{}", Hex(written))
 }
 
-fn put_leaf(s: &[u8], l: Leaf, out: &mut [u8], at: usize) -> usize {
-    let end = crate::lines::put_spaced(out, at, l.count);
-    put_value(s, l.at, out, end)
-}
-
-// ---- locations
-
-fn put_codes_or_none(out: &mut [u8], at: usize, list: [u32; 31], count: usize) -> usize {
-    if count == 0 {
-        return crate::lines::put(out, at, b"-");
+fn put_leaves(s: &[u8], leaves: &[Leaf], out: &mut Answer) -> fmt::Result {
+    for l in leaves {
+        put_value(s, l.count, l.at, out)?;
     }
-    crate::lines::put_locations(out, at, list, count)
+    Ok(())
 }
 
-// How many are placed, as the decimal number of a count that is 31 at most.
-fn small(n: usize) -> u32 {
-    if n < 32 {
-        return n as u32;
-    }
-    32
-}
-
-fn put_locations(e: Locations, out: &mut [u8], at: usize) -> usize {
-    let list = e.list;
-    let first = crate::lines::put_spaced(out, at, small(e.count));
-    let second = crate::lines::put(out, first, b":");
-    let end = put_codes_or_none(out, second, list, e.count);
+fn put_locations(e: &Locations, out: &mut Answer) -> fmt::Result {
+    write!(out, " {}:", e.count)?;
+    lines::put_locations(lines::front(&e.list, e.count), out)?;
     if e.bad {
-        return crate::lines::put(out, end, b":bad");
+        write!(out, ":bad")?;
     }
-    end
+    Ok(())
 }
 
-// ---- the alert
-
-fn put_audio(s: &[u8], e: Audio, out: &mut [u8], at: usize) -> usize {
-    let end = crate::lines::put_spaced(out, at, e.number);
-    put_value(s, e.uri, out, end)
+// expires, senderName, description, instruction, the SAME events, EAS-ORG, EASText and EAS-Must-Carry; then locations and audio.
+fn put_info(s: &[u8], i: &Info, out: &mut Answer) -> fmt::Result {
+    let leaves = [
+        i.leaf[reads::EXPIRES],
+        i.leaf[reads::SENDER_NAME],
+        i.leaf[reads::DESCRIPTION],
+        i.leaf[reads::INSTRUCTION],
+        i.events.same,
+        i.parameters.leaf[reads::EAS_ORG],
+        i.parameters.leaf[reads::EAS_TEXT],
+        i.parameters.leaf[reads::MUST_CARRY],
+    ];
+    put_leaves(s, &leaves, out)?;
+    put_locations(&i.locations, out)?;
+    put_value(s, i.audio.number, i.audio.uri, out)
 }
 
-fn put_parameters(s: &[u8], e: Parameters, out: &mut [u8], at: usize) -> usize {
-    let originator = e.leaf[reads::EAS_ORG];
-    let text = e.leaf[reads::EAS_TEXT];
-    let carry = e.leaf[reads::MUST_CARRY];
-    let first = put_leaf(s, originator, out, at);
-    let second = put_leaf(s, text, out, first);
-    put_leaf(s, carry, out, second)
+// identifier, sender and references; then the info that is kept.
+fn put_alert(s: &[u8], a: &Alert, out: &mut Answer) -> fmt::Result {
+    let leaves = [
+        a.leaf[reads::IDENTIFIER],
+        a.leaf[reads::SENDER],
+        a.leaf[reads::REFERENCES],
+    ];
+    put_leaves(s, &leaves, out)?;
+    put_info(s, &a.info, out)
 }
 
-// expires, senderName, description, instruction.
-fn put_info_leaves(s: &[u8], i: Info, out: &mut [u8], at: usize) -> usize {
-    let expires = i.leaf[reads::EXPIRES];
-    let sender_name = i.leaf[reads::SENDER_NAME];
-    let description = i.leaf[reads::DESCRIPTION];
-    let instruction = i.leaf[reads::INSTRUCTION];
-    let first = put_leaf(s, expires, out, at);
-    let second = put_leaf(s, sender_name, out, first);
-    let third = put_leaf(s, description, out, second);
-    put_leaf(s, instruction, out, third)
-}
-
-fn put_event(s: &[u8], e: Events, out: &mut [u8], at: usize) -> usize {
-    let same = e.same;
-    put_leaf(s, same, out, at)
-}
-
-fn put_info(s: &[u8], i: Info, out: &mut [u8], at: usize) -> usize {
-    let events = i.events;
-    let parameters = i.parameters;
-    let locations = i.locations;
-    let audio = i.audio;
-    let first = put_info_leaves(s, i, out, at);
-    let second = put_event(s, events, out, first);
-    let third = put_parameters(s, parameters, out, second);
-    let fourth = put_locations(locations, out, third);
-    put_audio(s, audio, out, fourth)
-}
-
-// identifier, sender, references.
-fn put_alert_leaves(s: &[u8], a: Alert, out: &mut [u8], at: usize) -> usize {
-    let identifier = a.leaf[reads::IDENTIFIER];
-    let sender = a.leaf[reads::SENDER];
-    let references = a.leaf[reads::REFERENCES];
-    let first = put_leaf(s, identifier, out, at);
-    let second = put_leaf(s, sender, out, first);
-    put_leaf(s, references, out, second)
-}
-
-// The number of the info that is kept: 0 for none, 1 for the first, 2 for the one that is selected.
+// What a case line calls the info that is kept: 0 for none, 1 for the first, 2 for the one that is selected.
 fn kept_number(k: Kept) -> u32 {
     match k {
         Kept::Nothing => 0,
@@ -111,26 +70,8 @@ fn kept_number(k: Kept) -> u32 {
     }
 }
 
-fn put_alert(s: &[u8], a: Alert, out: &mut [u8], at: usize) -> usize {
-    let i = a.info;
-    let kept = a.kept;
-    let number = crate::lines::put_spaced(out, at, kept_number(kept));
-    let leaves = put_alert_leaves(s, a, out, number);
-    put_info(s, i, out, leaves)
-}
-
-// ---- the message
-
-// Numbers 4, 5 and 6: nothing is read.
-fn is_unread(number: u32) -> bool {
-    if number < 4 {
-        return false;
-    }
-    number < 7
-}
-
-// The number of a msgType: 1 to 5 in the order of CAP 1.2, and 0 for one unknown to it.
-fn number_of(t: MsgType) -> u32 {
+// What a case line calls a msgType: 1 to 5 in the order of CAP 1.2, and 0 for one unknown to it.
+fn msg_type_number(t: MsgType) -> u32 {
     match t {
         MsgType::Unknown => 0,
         MsgType::Alert => 1,
@@ -141,35 +82,23 @@ fn number_of(t: MsgType) -> u32 {
     }
 }
 
-// The number of 4 to 10 that applies, whatever else a header asks.
-fn number_to_ten(number: u32) -> u32 {
-    if 10 < number {
-        return 0;
-    }
-    number
-}
-
-// Number of 4 to 10 and field; and, of a message that is read, its msgType's number, the instant of sent, and what is in its alert.
-fn put_found(s: &[u8], out: &mut [u8]) -> usize {
+// Number of 4 to 10, whatever else a header asks, and field; and, of a message that is read, its msgType's number, the instant of sent, and what is in its alert.
+fn put_found(s: &[u8], out: &mut Answer) -> fmt::Result {
     let j = judgement::judge(s);
     let m = j.message;
-    let number = crate::lines::put_decimal(out, 0, number_to_ten(j.number));
-    let field = crate::lines::put_spaced(out, number, m.field);
-    if is_unread(m.number) {
-        return field;
+    let number = if 10 < j.number { 0 } else { j.number };
+    write!(out, "{number} {}", m.field)?;
+    // Nothing is read under 4, 5 and 6.
+    if (4..=6).contains(&m.number) {
+        return Ok(());
     }
-    let a = m.alert;
-    let t = m.msg_type;
-    let msg_type = crate::lines::put_spaced(out, field, number_of(t));
-    let sent = crate::lines::put_spaced(out, msg_type, m.sent);
-    put_alert(s, a, out, sent)
+    let msg_type = msg_type_number(m.msg_type);
+    let kept = kept_number(m.alert.kept);
+    write!(out, " {msg_type} {} {kept}", m.sent)?;
+    put_alert(s, &m.alert, out)
 }
 
-pub(crate) fn found(asked: &[u8], out: &mut [u8]) -> usize {
-    let mut bytes = [0u8; LONGEST];
-    let got = crate::lines::unhex(asked, &mut bytes);
-    if !got.ok {
-        return crate::lines::put(out, 0, b"?");
-    }
-    put_found(crate::lines::front(&bytes, got.len), out)
+pub(crate) fn found(asked: &[u8], out: &mut Answer) -> Option<()> {
+    let mut message = [0u8; LONGEST];
+    put_found(lines::unhex(asked, &mut message)?, out).ok()
 }

@@ -9,60 +9,38 @@ ghost use Rattle.characters.specs.WorkingUtf8.{legal_from, joined_at};
 
 // ---- which are legal
 
+#[tactic(auto, unfolding(crate::specs::Utf8::is_legal, octets::specs::Bytes::between, octets::specs::Bytes::every, octets::specs::Bytes::one_of))]
 pub fn is_legal(c: u32) -> bool
     ensures { result ≡ is_legal c }
 {
-    if c < 32 {
-        return octets::is_space(c as u8);
-    }
-    if c <= 55295 {
-        return true;
-    }
-    if c < 57344 {
-        return false;
-    }
-    if c <= 65533 {
-        return true;
-    }
-    if c < 65536 {
-        return false;
-    }
-    c <= 1114111
+    matches!(c, 0x20..=0xd7ff | 0xe000..=0xfffd | 0x1_0000..=0x10_ffff | 0x09 | 0x0a | 0x0d)
 }
 
 // A number that is a character and not below `least`, and 0 for any other.
 fn legal_from(least: u32, c: u32) -> u32
     ensures { result ≡ legal_from least c }
 {
-    if c < least {
-        return 0;
-    }
-    if is_legal(c) { c } else { 0 }
+    if least <= c && is_legal(c) { c } else { 0 }
 }
 
 // Whether a byte is a character by itself.
+#[tactic(auto, unfolding(crate::specs::Utf8::is_single, crate::specs::Utf8::is_legal, octets::specs::Bytes::between, octets::specs::Bytes::every, octets::specs::Bytes::one_of))]
 pub fn is_single(b: u8) -> bool
     ensures { result ≡ is_single b }
 {
-    if b < 32 {
-        return octets::is_space(b);
-    }
-    b < 128
+    matches!(b, b' '..=0x7f | b'\t' | b'\n' | b'\r')
 }
 
 // Whether a character is white space.
 pub fn is_space(c: u32) -> bool
     ensures { result ≡ is_space c }
 {
-    if 32 < c {
-        return false;
-    }
-    octets::is_space(c as u8)
+    c <= 32 && octets::is_space(c as u8)
 }
 
 // ---- reading
 
-// The bits n, and behind them the six of the byte at i; 0 where no byte stands there that a character goes on with.
+// The bits n, and behind them the six of the byte at i; 0, which is below each least number, where no byte stands there that a character goes on with.
 fn join(s: &[u8], i: usize, n: u32) -> u32
     requires { n ≤ 65535 }
     ensures value { result ≡ joined_at s.now i n }
@@ -72,65 +50,52 @@ fn join(s: &[u8], i: usize, n: u32) -> u32
     if !octets::is_between(128, 191, b) {
         return 0;
     }
-    n * 64 + (b - 128) as u32
+    n * 64 + u32::from(b - 128)
 }
 
 // The character at a place, and 0 where none stands: past the end, where the bytes are no UTF-8, or where the character is not legal. The first byte tells how many
-// there are, and the least number that so many may write.
+// there are, and the least number that so many may write. One number says both, since `scalar_at` says both, and 0 is no legal character.
 pub fn scalar(s: &[u8], at: usize) -> u32
     ensures { result ≡ scalar_at s.now at }
 {
     let a = octets::byte(s, at);
-    if a < 128 {
-        return legal_from(0, a as u32);
+    match a {
+        0..=127 => legal_from(0, u32::from(a)),
+        128..=191 => 0,
+        192..=223 => legal_from(128, join(s, at + 1, u32::from(a - 192))),
+        224..=239 => {
+            let b = join(s, at + 1, u32::from(a - 224));
+            legal_from(2048, join(s, at + 2, b))
+        }
+        240..=255 => {
+            let b = join(s, at + 1, u32::from(a - 240));
+            let c = join(s, at + 2, b);
+            legal_from(65536, join(s, at + 3, c))
+        }
     }
-    if a < 192 {
-        return 0;
-    }
-    if a < 224 {
-        let v = join(s, at + 1, (a - 192) as u32);
-        return legal_from(128, v);
-    }
-    if a < 240 {
-        let v = join(s, at + 2, join(s, at + 1, (a - 224) as u32));
-        return legal_from(2048, v);
-    }
-    let v = join(
-        s,
-        at + 3,
-        join(s, at + 2, join(s, at + 1, (a - 240) as u32)),
-    );
-    legal_from(65536, v)
 }
 
 // How many bytes a character has.
 pub fn bytes_of(c: u32) -> usize
     ensures { result ≡ width c }
 {
-    if c < 128 {
-        return 1;
+    match c {
+        0..=127 => 1,
+        128..=2047 => 2,
+        2048..=65535 => 3,
+        _ => 4,
     }
-    if c < 2048 {
-        return 2;
-    }
-    if c < 65536 {
-        return 3;
-    }
-    4
 }
 
-// How many bytes the character at a place has, and 0 where none stands.
+// How many bytes the character at a place has, and 0 where none stands: no width is 0, and one number says both, as `width_at` does.
 pub fn width_at(s: &[u8], at: usize) -> usize
     ensures { result ≡ width_at s.now at }
 {
     let c = scalar(s, at);
-    if c == 0 {
-        return 0;
-    }
-    bytes_of(c)
+    if c == 0 { 0 } else { bytes_of(c) }
 }
 
-// How many bytes the number at a place has that UTF-8 writes there, legal in XML or not, and 0 where none stands.
+// How many bytes the number at a place has that UTF-8 writes there, legal in XML or not, and 0 where none stands, as `coded_width` says both.
 pub fn coded_width(s: &[u8], at: usize) -> usize
     ensures { result ≡ coded_width s.now at }
 {
@@ -145,52 +110,38 @@ pub fn coded_width(s: &[u8], at: usize) -> usize
         return n;
     }
     // 0xFFFE and 0xFFFF: of the numbers from 128 on, only these are written and not legal
-    if octets::stands_at(s, at, b"\xef\xbf\xbe") {
-        return 3;
+    if octets::stands_at(s, at, b"\xef\xbf\xbe") || octets::stands_at(s, at, b"\xef\xbf\xbf") {
+        3
+    } else {
+        0
     }
-    if octets::stands_at(s, at, b"\xef\xbf\xbf") {
-        return 3;
-    }
-    0
 }
 
 // ---- writing
 
-fn put_tail(out: &mut [u8], at: usize, n: u32)
-    requires { at + 1 ≤ length out.old }
-    ensures { out.new ≡ sets out.old at (tail n ∷ []) }
+// A byte behind the first, of the last six bits of n.
+fn tail(n: u32) -> u8
+    ensures { result ≡ tail n }
 {
-    octets::put_byte(out, at, (128 + n % 64) as u8);
+    (128 + n % 64) as u8
 }
 
-fn put_two(out: &mut [u8], at: usize, c: u32)
-    requires at_in_bounds { at + 2 ≤ length out.old }
-    requires le_c { (128 ≤ c) × (c < 2048) }
+fn put_encoded(out: &mut [u8], at: usize, c: u32)
+    requires c_in_bounds { at + width c ≤ length out.old }
+    requires c_bound { c ≤ 1114111 }
     ensures { out.new ≡ sets out.old at (encoded c) }
 {
-    octets::put_byte(out, at, (192 + c / 64) as u8);
-    put_tail(out, at + 1, c);
-}
-
-fn put_three(out: &mut [u8], at: usize, c: u32)
-    requires at_in_bounds { at + 3 ≤ length out.old }
-    requires le_c { (2048 ≤ c) × (c < 65536) }
-    ensures { out.new ≡ sets out.old at (encoded c) }
-{
-    octets::put_byte(out, at, (224 + c / 64 / 64) as u8);
-    put_tail(out, at + 1, c / 64);
-    put_tail(out, at + 2, c);
-}
-
-fn put_four(out: &mut [u8], at: usize, c: u32)
-    requires at_in_bounds { at + 4 ≤ length out.old }
-    requires le_c { (65536 ≤ c) × (c ≤ 1114111) }
-    ensures { out.new ≡ sets out.old at (encoded c) }
-{
-    octets::put_byte(out, at, (240 + c / 64 / 64 / 64) as u8);
-    put_tail(out, at + 1, c / 64 / 64);
-    put_tail(out, at + 2, c / 64);
-    put_tail(out, at + 3, c);
+    if c < 128 {
+        octets::put_byte(out, at, c as u8);
+    } else if c < 2048 {
+        octets::put_bytes(out, at, &[(192 + c / 64) as u8, tail(c)]);
+    } else if c < 65536 {
+        let first = (224 + c / 64 / 64) as u8;
+        octets::put_bytes(out, at, &[first, tail(c / 64), tail(c)]);
+    } else {
+        let first = (240 + c / 64 / 64 / 64) as u8;
+        octets::put_bytes(out, at, &[first, tail(c / 64 / 64), tail(c / 64), tail(c)]);
+    }
 }
 
 // Puts the bytes of a character from `at` on, and says where they end.
@@ -200,18 +151,6 @@ pub fn put_scalar(out: &mut [u8], at: usize, c: u32) -> usize
     ensures value { result ≡ at + width c }
     ensures out_after { out.new ≡ sets out.old at (encoded c) }
 {
-    if c < 128 {
-        octets::put_byte(out, at, c as u8);
-        return at + 1;
-    }
-    if c < 2048 {
-        put_two(out, at, c);
-        return at + 2;
-    }
-    if c < 65536 {
-        put_three(out, at, c);
-        return at + 3;
-    }
-    put_four(out, at, c);
-    at + 4
+    put_encoded(out, at, c);
+    at + bytes_of(c)
 }

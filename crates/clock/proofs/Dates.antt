@@ -7,7 +7,7 @@ use lib.IntN.{pos, +ℤ_idr}
 use Rattle.clock.specs.Calendar.{leap, month_days, days_before, days_to, day_number}
 use Rattle.clock.specs.Time.{span, since2000, utc, in_span}
 use Rattle.clock.specs.Stamp.{stamp_of, instant_of}
-use Rattle.clock.specs.declared.Time.TheVariants.{At}
+use Rattle.std.specs.Prelude.{Some}
 use Rattle.clock.proofs.Calendar.{day-in-year, days-to-low, days-to-2000}
 use Rattle.clock.proofs.Signed.{minus}
 use Rattle.clock.proofs.Stamps.{Came, back-and-there}
@@ -28,7 +28,7 @@ module _ (y m d s : ℕ) (a : 2000 ≤ y) (b : y ≤ 2099) (h : 1 ≤ m) (k : m 
       ∙ minus ((days_to y + days_before (leap y) m + (d - 1)) * 86400 + s) (days_to 2000 * 86400) (omega (arith, days-to-2000))
       ∙ ap pos (omega (arith, days-to-2000))
 
-  pub shown : in_span (utc (since2000 (day_number y m d) s) (pos 0)) ≡ At (instant_of y ordinal s)
+  pub shown : in_span (utc (since2000 (day_number y m d) s) (pos 0)) ≡ Some (instant_of y ordinal s)
   unfolding in_span
   shown = ap in_span in-utc ∙ rw (lt-ltb (instant_of y ordinal s) span came.inside)
 

@@ -5,6 +5,8 @@ use mathlib.Core.Bool.{Bool, true, false}
 use Prim.Native.Nat.{ℕ, ◌+◌, ◌*◌, ◌/◌, ◌%◌, ◌≤◌, ◌<◌}
 use native.Mathlib.Omega.{arith}
 use native.Mathlib.Decide.{dec_le}
+use Rattle.std.specs.Int.{div_ceil}
+use Rattle.std.specs.Prelude.{min}
 use borrow.Author.Tests.{le-leb, lt-leb, leb-true}
 use lib.Dec.{leb}
 use Rattle.octets.specs.Bytes.{pick}
@@ -25,6 +27,17 @@ at-most-full false x most e h = refl
 pub period-most : (n : ℕ) → 358200 ≤ n → period_of n ≡ 5970
 unfolding period_of up at_most
 period-most n h = rw (lt-leb n 2700 (omega arith)) (at-most-full _ ((n + 1799) / 1800 * 30) 5970 refl (omega arith))
+
+-- the same as the code rounds up
+pub period-quarters : (n : ℕ) → n ≤ 2700 → div_ceil n 900 * 15 ≡ period_of n
+period-quarters n h = rw (period-short n h) (omega arith)
+
+pub period-halves : (n : ℕ) → 2700 < n → min (div_ceil n 1800 * 30) 5970 ≡ period_of n
+period-halves n h = by (dec_le n 358200)
+  where
+    by : Dec (n ≤ 358200) → min (div_ceil n 1800 * 30) 5970 ≡ period_of n
+    by (yes l) = rw (period-long n h l) (omega arith)
+    by (no l) = rw (period-most n (omega arith)) (omega arith)
 
 -- what a period is, whatever the seconds
 pub record Period (n m : ℕ) : Type 0 where

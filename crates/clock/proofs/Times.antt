@@ -2,69 +2,60 @@
 --     instant-low     the instant of a time is one of 2000 to 2099
 use mathlib.Core.Path.{◌≡◌, refl, sym, ap, ap₂, ◌∙◌}
 use mathlib.Core.List.{List}
-use mathlib.Core.Bool.{true, false}
-use Prim.Native.Nat.{ℕ, ◌+◌, ◌*◌, ◌≤◌, ◌<◌}
+use mathlib.Core.Bool.{Bool, true, false}
+use Prim.Native.Nat.{ℕ, ◌+◌, ◌*◌, ◌≤◌, ◌<◌, ◌^◌}
 use native.Mathlib.Omega.{arith}
-use borrow.Author.Tests.{eq-eqb, leb-true, leb-false, ltb-true, le-ltb, lt-ltb}
+use borrow.Author.Tests.{eq-eqb, ltb-true, le-ltb}
 use lib.ListN.{length, get_or}
 use lib.IntN.{ℤ, pos, negsuc, nat_abs, ◌*ℤ◌}
-use lib.Signed.{mag, lt_z, le_z, non_neg}
-use lib.Dec.{T, ltb, eqb}
+use lib.Signed.{mag}
+use Rattle.std.specs.Bool.{then_some}
+use Rattle.std.specs.Int.{FitsUnsignedBits}
+use Rattle.std.specs.Result.{OkIff, result_ok}
+use Rattle.std.specs.Prelude.{Result, Ok, Err}
+use lib.Dec.{ltb, eqb}
 use mir.Syntax.{w64}
 use mir.Val.{to_z, of_z}
-use Rattle.octets.specs.Bytes.{every, holds, byte_at}
-use Rattle.octets.specs.declared.Num.TheVariants.{Value}
+use Rattle.octets.specs.Bytes.{pick, every, holds, byte_at}
 use Rattle.octets.proofs.Tests.{every_of, one-fails, picked, passed_over, either_way}
 use Rattle.clock.specs.Calendar.{days_to}
 use Rattle.clock.specs.Time.{reads, date_tests, date_of, minutes_of, second_tests, second_of, zone_tests, signed, offset, since2000, local_time, utc, span, in_span, time_tests, time_of, instant_in}
-use Rattle.clock.specs.declared.Time.{Time}
-use Rattle.clock.specs.declared.Time.TheVariants.{At}
+use Rattle.std.specs.Prelude.{Option, Some, None}
 use Rattle.clock.proofs.Calendar.{days-to-2000}
 use Rattle.clock.proofs.Signed.{mag-neg, mag-sub, mag-sixty, back}
 use Rattle.clock.proofs.Pieces.{read_is, date-under, second-under, zone-under}
 
-pub time-no : (i : ℕ) (t : List ℕ) → get_or (time_tests t) i true ≡ false → time_of t ≡ Time.Bad
+pub time-no : (i : ℕ) (t : List ℕ) → get_or (time_tests t) i true ≡ false → time_of t ≡ None
 unfolding time_of
 time-no i t h = passed_over _ _ _ (one-fails i (time_tests t) h)
 
--- ---- in 2000 to 2099 or not: z' is what the code compares
+-- ---- in 2000 to 2099 or not: r is the conversion that the code tries, to 32 bits
 
-pub within-before : (z z' : ℤ) → z' ≡ z → lt_z z' (pos 0) ≡ true → in_span z ≡ Time.Bad
+pub span-not : {E : Type 0} (z z' : ℤ) (r : Result ℕ E) → z' ≡ z → OkIff r (FitsUnsignedBits 32 z') (nat_abs z') → None ≡ result_ok r → in_span z ≡ None
 unfolding in_span
-within-before z z' e h = before z (rw e at h)
-  where
-    before : (z : ℤ) → lt_z z (pos 0) ≡ true → in_span z ≡ Time.Bad
-    before (pos n) h = absurd (omega (arith, ltb-true n 0 h))
-    before (negsuc n) h = refl
+span-not (pos n) z' (Ok x) e k h = let q : ◌≡◌ {A = ℕ} 0 1 = cc in absurd (omega arith)
+span-not (pos n) z' (Err d) e k h = let l : n < 2 ^ 32 → ⊥ = rw e at k in rw (le-ltb n span (omega arith))
+span-not (negsuc n) z' r e k h = refl
 
-pub within-after : (z z' : ℤ) → z' ≡ z → le_z (pos span) z' ≡ true → in_span z ≡ Time.Bad
+pick-some : (b : Bool) (n : ℕ) → pick b (Some n) None ≡ then_some b n
+pick-some true n = refl
+pick-some false n = refl
+
+pub span-is : {E : Type 0} (z z' : ℤ) (r : Result ℕ E) (n : ℕ) → z' ≡ z → OkIff r (FitsUnsignedBits 32 z') (nat_abs z') → Some n ≡ result_ok r → in_span z ≡ then_some (ltb n span) n
 unfolding in_span
-within-after z z' e h = after z (rw e at h)
-  where
-    after : (z : ℤ) → le_z (pos span) z ≡ true → in_span z ≡ Time.Bad
-    after (pos n) h = rw (le-ltb n span (leb-true span n h))
-    after (negsuc n) h = refl
-
-pub record Inside (z : ℤ) : Type 0 where
-  pub sign : T (non_neg z)
-  pub low : nat_abs z < span
-  pub is : At (nat_abs z) ≡ in_span z
-
-pub within-is : (z : ℤ) → lt_z z (pos 0) ≡ false → le_z (pos span) z ≡ false → Inside z
-unfolding in_span
-within-is (pos n) h k =
-    let l : n < span = leb-false span n k in
-    record { sign = tt; low = l; is = rw (lt-ltb n span l) }
-within-is (negsuc n) h k = let z : ◌≡◌ {A = ℕ} 0 1 = cc in absurd (omega arith)
+span-is (pos m) z' (Ok x) n e k h = let q : x ≡ m = k.1 ∙ ap nat_abs e in let p : n ≡ x = cc in rw (p, q) (pick-some (ltb m span) m)
+span-is (pos m) z' (Err d) n e k h = let q : ◌≡◌ {A = ℕ} 0 1 = cc in absurd (omega arith)
+span-is (negsuc m) z' (Ok x) n e k h = absurd (rw e at k.0)
+span-is (negsuc m) z' (Err d) n e k h = let q : ◌≡◌ {A = ℕ} 0 1 = cc in absurd (omega arith)
 
 within_low : (z : ℤ) → instant_in (in_span z) < span
 unfolding in_span
-within_low (pos m) = either_way (λ (x : Time). instant_in x < span) (ltb m span) _ _ (λ e. ltb-true m span e) (λ e. omega arith)
+within_low (pos m) = either_way (λ (x : Option ℕ). instant_in x < span) (ltb m span) _ _ (λ e. ltb-true m span e) (λ e. omega arith)
 within_low (negsuc m) = omega arith
 
 pub instant-low : (t : List ℕ) → instant_in (time_of t) < span
 unfolding time_of
-instant-low t = either_way (λ (x : Time). instant_in x < span) (every holds (time_tests t)) _ _ (λ e. within_low (utc (local_time t) (offset t))) (λ e. omega arith)
+instant-low t = either_way (λ (x : Option ℕ). instant_in x < span) (every holds (time_tests t)) _ _ (λ e. within_low (utc (local_time t) (offset t))) (λ e. omega arith)
 
 -- ---- from the pieces that the code has read: days, second of the day, minutes behind the sign
 
@@ -81,9 +72,9 @@ since-most d s h k = omega (arith, mag-sub (pos (d * 86400 + s)) (pos (days_to 2
 
 pub record Parts (t : List ℕ) (d s m : ℕ) : Type 0 where
   pub long : length t ≡ 25
-  pub date-read : reads (date_tests t) (date_of t) ≡ Value d
-  pub second-read : reads (second_tests t) (second_of t) ≡ Value s
-  pub zone-read : reads (zone_tests t) (minutes_of t 20) ≡ Value m
+  pub date-read : reads (date_tests t) (date_of t) ≡ Some d
+  pub second-read : reads (second_tests t) (second_of t) ≡ Some s
+  pub zone-read : reads (zone_tests t) (minutes_of t 20) ≡ Some m
 
 module _ {t : List ℕ} {d s m : ℕ} (g : Parts t d s m) where
   pub parts-fit : (d ≤ 4000000) × (s < 86400)
@@ -116,7 +107,7 @@ module _ {t : List ℕ} {d s m : ℕ} (g : Parts t d s m) where
       ∙ rw (p.1, q.1, r.1)
 
   -- the instant that the code has made of local time a and offset z
-  pub time-made : (a b z : ℤ) (x : Time) → a ≡ since2000 d s → z ≡ signed (byte_at t 19) m → b ≡ utc (to_z w64 (of_z w64 a)) (to_z w64 (of_z w64 z)) → x ≡ in_span (to_z w64 (of_z w64 b)) → x ≡ time_of t
+  pub time-made : (a b z : ℤ) (x : Option ℕ) → a ≡ since2000 d s → z ≡ signed (byte_at t 19) m → b ≡ utc (to_z w64 (of_z w64 a)) (to_z w64 (of_z w64 z)) → x ≡ in_span (to_z w64 (of_z w64 b)) → x ≡ time_of t
   time-made a b z x e f i h =
       let u = utc (since2000 d s) (signed (byte_at t 19) m) in
       let j : b ≡ u = i ∙ ap₂ utc (local_back a e) (signed_back z (byte_at t 19) m f behind-most) in

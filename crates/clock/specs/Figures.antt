@@ -6,8 +6,7 @@ use Rattle.clock.specs.Time.{time_of}
 use Rattle.clock.specs.Period.{period_of}
 use Rattle.clock.specs.Stamp.{stamped}
 use Rattle.clock.specs.Written.{tttt}
-use Rattle.clock.specs.declared.Time.{Time}
-use Rattle.clock.specs.declared.Time.TheVariants.{At}
+use Rattle.std.specs.Prelude.{Option, Some, None}
 
 -- a row of the table
 pub data FigureRow : Type 0 where
@@ -16,15 +15,15 @@ pub data FigureRow : Type 0 where
   no_date : String → FigureRow
 
 -- the JJJHHMM of a time, if it is one
-unfoldable pub stamp_written : Time → List ℕ
-stamp_written (At n) = stamped n
-stamp_written Time.Bad = []
+unfoldable pub stamp_written : Option ℕ → List ℕ
+stamp_written (Some n) = stamped n
+stamp_written None = []
 
 -- seconds n give TTTT; sent gives JJJHHMM; what is no date begins no time
 unfoldable pub FigureHolds : FigureRow → Type 0
 FigureHolds (seconds n t) = tttt (period_of n) ≡ bytes t
 FigureHolds (sent t j) = stamp_written (time_of (bytes t)) ≡ bytes j
-FigureHolds (no_date d) = (rest : List ℕ) → time_of (bytes d ++ rest) ≡ Time.Bad
+FigureHolds (no_date d) = (rest : List ℕ) → time_of (bytes d ++ rest) ≡ None
 
 -- the statement
 unfoldable pub AllFigures : List FigureRow → Type 0

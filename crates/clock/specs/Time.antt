@@ -2,15 +2,12 @@
 use Rattle.std.specs.Prelude.{ℕ, ◌+◌, ◌*◌, List, [], ◌∷◌, Bool, true, false, length, ℤ, pos, negsuc, neg_ℤ, ◌-ℤ◌, ◌*ℤ◌, ltb, eqb}
 use Rattle.octets.specs.Bytes.{pick, every, holds, one_of, byte_at, part}
 use Rattle.octets.specs.Digits.{value, in_range}
-use Rattle.octets.specs.declared.Num.{Num}
-use Rattle.octets.specs.declared.Num.TheVariants.{Value, Bad}
 use Rattle.clock.specs.Calendar.{leap, month_days, days_to, day_number}
-use Rattle.clock.specs.declared.Time.{Time}
-use Rattle.clock.specs.declared.Time.TheVariants.{At}
+use Rattle.std.specs.Prelude.{Option, Some, None}
 
 -- a piece of a time: its value where every test holds
-unfoldable pub reads : List Bool → ℕ → Num
-reads tests v = pick (every holds tests) (Value v) Bad
+unfoldable pub reads : List Bool → ℕ → Option ℕ
+reads tests v = pick (every holds tests) (Some v) None
 
 -- ---- `YYYY-MM-DD`
 
@@ -95,9 +92,9 @@ abbrev pub span : ℕ
 span = 3155760000
 
 -- must lie in 2000 to 2099 UTC
-unfoldable pub in_span : ℤ → Time
-in_span (pos n) = pick (ltb n span) (At n) Time.Bad
-in_span (negsuc n) = Time.Bad
+unfoldable pub in_span : ℤ → Option ℕ
+in_span (pos n) = pick (ltb n span) (Some n) None
+in_span (negsuc n) = None
 
 -- ---- the whole
 
@@ -106,15 +103,15 @@ abbrev pub time_tests : List ℕ → List Bool
 time_tests t = eqb (length t) 25 ∷ every holds (date_tests t) ∷ every holds (second_tests t) ∷ every holds (zone_tests t) ∷ []
 
 -- the instant of a time
-unfoldable pub time_of : List ℕ → Time
-time_of t = pick (every holds (time_tests t)) (in_span (utc (local_time t) (offset t))) Time.Bad
+unfoldable pub time_of : List ℕ → Option ℕ
+time_of t = pick (every holds (time_tests t)) (in_span (utc (local_time t) (offset t))) None
 
 -- whether there is one
-abbrev pub is_time : Time → Bool
-is_time (At n) = true
-is_time Time.Bad = false
+abbrev pub is_time : Option ℕ → Bool
+is_time (Some n) = true
+is_time None = false
 
 -- its seconds, and 0 where there is none
-abbrev pub instant_in : Time → ℕ
-instant_in (At n) = n
-instant_in Time.Bad = 0
+abbrev pub instant_in : Option ℕ → ℕ
+instant_in (Some n) = n
+instant_in None = 0

@@ -6,19 +6,10 @@ ghost use Rattle.std.specs.Prelude.{◌≡◌, ◌+◌, ◌≤◌, ◌<◌, leng
 ghost use Rattle.std.proofs.lemmas.List.Edits.{sets};
 ghost use Rattle.std.specs.Int.Signed.{mag};
 ghost use Rattle.clock.specs.Calendar.{leap, month_days, days_before, days_to};
-ghost use Rattle.clock.specs.Time.{reads, date_tests, date_of, minutes_tests, minutes_of, second_tests, second_of, is_sign, zone_tests, signed, since2000, utc, span, in_span, time_of, is_time, instant_in};
+ghost use Rattle.clock.specs.Time.{reads, date_tests, date_of, minutes_tests, minutes_of, second_tests, second_of, is_sign, zone_tests, signed, since2000, utc, span, in_span, time_of};
 ghost use Rattle.clock.specs.Period.{period_of};
 ghost use Rattle.clock.specs.Stamp.{year_day_of, stamp_of, instant_of};
 ghost use Rattle.clock.specs.Written.{tttt, jjjhhmm};
-
-use octets::Num;
-
-// What a time reads as: an instant, in seconds since 2000 began in UTC.
-#[derive(Clone, Copy)]
-pub enum Time {
-    At(u32),
-    Bad,
-}
 
 // A day in its year, the first being 1.
 #[derive(Clone, Copy)]
@@ -41,13 +32,7 @@ pub struct Stamp {
 pub fn is_leap(year: u32) -> bool
     ensures { result ≡ leap year }
 {
-    if year % 4 != 0 {
-        return false;
-    }
-    if year % 100 != 0 {
-        return true;
-    }
-    year % 400 == 0
+    year % 4 == 0 && (year % 100 != 0 || year % 400 == 0)
 }
 
 const BEFORE: [u32; 13] = [0, 31, 59, 90, 120, 151, 181, 212, 243, 273, 304, 334, 365];
@@ -59,13 +44,7 @@ fn days_before(leap: bool, month: u32) -> u32
     ensures { result ≡ days_before leap month }
 {
     let plain = BEFORE[(month - 1) as usize];
-    if month < 3 {
-        return plain;
-    }
-    if leap {
-        return plain + 1;
-    }
-    plain
+    if month > 2 && leap { plain + 1 } else { plain }
 }
 
 fn month_days(leap: bool, month: u32) -> u32
@@ -81,91 +60,73 @@ fn days_to(year: u32) -> u32
     requires { year ≤ 9999 }
     ensures { result ≡ days_to year }
 {
-    year * 365 + (year + 3) / 4 + (year + 399) / 400 - (year + 99) / 100
+    year * 365 + year.div_ceil(4) + year.div_ceil(400) - year.div_ceil(100)
 }
 
 // ---- from a time to its instant
 
 // `YYYY-MM-DD` at the start: the days before it.
-fn date(t: &[u8]) -> Num
+fn date(t: &[u8]) -> Option<u32>
     requires { 25 ≤ length t.now }
     ensures { result ≡ reads (date_tests t.now) (date_of t.now) }
 {
-    let Num::Value(y) = octets::ranged(t, 0, 4, 0, 9999) else {
-        return Num::Bad;
-    };
-    if t[4] != 45 {
-        return Num::Bad;
+    let year = octets::ranged(t, 0, 4, 0, 9999)?;
+    if t[4] != b'-' {
+        return None;
     }
-    let Num::Value(m) = octets::ranged(t, 5, 2, 1, 12) else {
-        return Num::Bad;
-    };
-    if t[7] != 45 {
-        return Num::Bad;
+    let month = octets::ranged(t, 5, 2, 1, 12)?;
+    if t[7] != b'-' {
+        return None;
     }
-    let leap = is_leap(y);
-    let most = month_days(leap, m);
-    let Num::Value(d) = octets::ranged(t, 8, 2, 1, most) else {
-        return Num::Bad;
-    };
-    Num::Value(days_to(y) + days_before(leap, m) + (d - 1))
+    let leap = is_leap(year);
+    let day = octets::ranged(t, 8, 2, 1, month_days(leap, month))?;
+    Some(days_to(year) + days_before(leap, month) + (day - 1))
 }
 
 // `hh:mm` from `at`, in minutes.
-fn minutes(t: &[u8], at: usize, most: u32) -> Num
+fn minutes(t: &[u8], at: usize, most: u32) -> Option<u32>
     requires at_in_bounds { at + 5 ≤ length t.now }
     requires most_bound { most ≤ 99 }
     ensures { result ≡ reads (minutes_tests t.now at most) (minutes_of t.now at) }
 {
-    let Num::Value(h) = octets::ranged(t, at, 2, 0, most) else {
-        return Num::Bad;
-    };
-    if t[at + 2] != 58 {
-        return Num::Bad;
+    let hours = octets::ranged(t, at, 2, 0, most)?;
+    if t[at + 2] != b':' {
+        return None;
     }
-    let Num::Value(m) = octets::ranged(t, at + 3, 2, 0, 59) else {
-        return Num::Bad;
-    };
-    Num::Value(h * 60 + m)
+    let minutes = octets::ranged(t, at + 3, 2, 0, 59)?;
+    Some(hours * 60 + minutes)
 }
 
 // `Thh:mm:ss` behind the date, in seconds of the day.
-fn second(t: &[u8]) -> Num
+fn second(t: &[u8]) -> Option<u32>
     requires { 25 ≤ length t.now }
     ensures { result ≡ reads (second_tests t.now) (second_of t.now) }
 {
-    if t[10] != 84 {
-        return Num::Bad;
+    if t[10] != b'T' {
+        return None;
     }
-    let Num::Value(m) = minutes(t, 11, 23) else {
-        return Num::Bad;
-    };
-    if t[16] != 58 {
-        return Num::Bad;
+    let minute = minutes(t, 11, 23)?;
+    if t[16] != b':' {
+        return None;
     }
-    let Num::Value(s) = octets::ranged(t, 17, 2, 0, 59) else {
-        return Num::Bad;
-    };
-    Num::Value(m * 60 + s)
+    let second = octets::ranged(t, 17, 2, 0, 59)?;
+    Some(minute * 60 + second)
 }
 
 // `+` or `-`.
 fn is_sign(b: u8) -> bool
     ensures { result ≡ is_sign b }
 {
-    if b == 43 {
-        return true;
-    }
-    b == 45
+    matches!(b, b'+' | b'-')
 }
 
 // `+zh:zm` or `-zh:zm` at the end: the minutes behind the sign.
-fn zone(t: &[u8]) -> Num
+fn zone(t: &[u8]) -> Option<u32>
     requires { 25 ≤ length t.now }
     ensures { result ≡ reads (zone_tests t.now) (minutes_of t.now 20) }
 {
     if !is_sign(t[19]) {
-        return Num::Bad;
+        return None;
     }
     minutes(t, 20, 14)
 }
@@ -174,11 +135,8 @@ fn zone(t: &[u8]) -> Num
 fn with_sign(sign: u8, m: u32) -> i64
     ensures { result ≡ signed sign m }
 {
-    let n = m as i64;
-    if sign == 45 {
-        return -n;
-    }
-    n
+    let n = i64::from(m);
+    if sign == b'-' { -n } else { n }
 }
 
 // Seconds since 2000 began, by the same clock; negative before.
@@ -187,9 +145,7 @@ fn since_2000(days: u32, second: u32) -> i64
     requires second_bound { second < 86400 }
     ensures { result ≡ since2000 days second }
 {
-    let d = days as i64;
-    let s = second as i64;
-    d * 86400 + s - 63113904000
+    i64::from(days) * 86400 + i64::from(second) - 63113904000
 }
 
 // Local time less the signed offset.
@@ -202,55 +158,25 @@ fn to_utc(local: i64, minutes: i64) -> i64
 }
 
 // An instant of 2000 to 2099, or none.
-fn in_span(t: i64) -> Time
+fn in_span(t: i64) -> Option<u32>
     ensures { result ≡ in_span t }
 {
-    if t < 0 {
-        return Time::Bad;
-    }
-    if t >= 3155760000 {
-        return Time::Bad;
-    }
-    Time::At(t as u32)
+    let seconds = u32::try_from(t).ok()?;
+    (seconds < 3155760000).then_some(seconds)
 }
 
 // The instant of a time.
-pub fn instant(t: &[u8]) -> Time
+pub fn instant(t: &[u8]) -> Option<u32>
     ensures { result ≡ time_of t.now }
 {
     if t.len() != 25 {
-        return Time::Bad;
+        return None;
     }
-    let Num::Value(days) = date(t) else {
-        return Time::Bad;
-    };
-    let Num::Value(seconds) = second(t) else {
-        return Time::Bad;
-    };
-    let Num::Value(behind) = zone(t) else {
-        return Time::Bad;
-    };
+    let days = date(t)?;
+    let seconds = second(t)?;
+    let behind = zone(t)?;
     let offset = with_sign(t[19], behind);
     in_span(to_utc(since_2000(days, seconds), offset))
-}
-
-pub fn is_time(t: Time) -> bool
-    ensures { result ≡ is_time t }
-{
-    match t {
-        Time::At(_) => true,
-        Time::Bad => false,
-    }
-}
-
-// The seconds of an instant, and 0 where there is none.
-pub fn seconds(t: Time) -> u32
-    ensures { result ≡ instant_in t }
-{
-    match t {
-        Time::At(n) => n,
-        Time::Bad => 0,
-    }
 }
 
 // ---- the period
@@ -260,12 +186,10 @@ pub fn period(seconds: u32) -> u32
     ensures { result ≡ period_of seconds }
 {
     if seconds <= 2700 {
-        return (seconds + 899) / 900 * 15;
+        seconds.div_ceil(900) * 15
+    } else {
+        (seconds.div_ceil(1800) * 30).min(5970)
     }
-    if 358200 <= seconds {
-        return 5970;
-    }
-    (seconds + 1799) / 1800 * 30
 }
 
 // ---- from an instant
@@ -283,9 +207,10 @@ fn year_day(d: u32) -> YearDay
             day: rest + 1,
         };
     }
+    let later = rest - 366;
     YearDay {
-        year: four + 1 + (rest - 366) / 365,
-        day: (rest - 366) % 365 + 1,
+        year: four + 1 + later / 365,
+        day: later % 365 + 1,
     }
 }
 
@@ -321,7 +246,7 @@ pub fn put_tttt(out: &mut [u8], at: usize, minutes: u32)
     octets::put_number(out, at + 2, 2, minutes % 60);
 }
 
-// Puts `JJJHHMM`.
+// Puts `JJJHHMM`: three numbers, as `jjjhhmm` takes them of a stamp and of a body alike.
 pub fn put_jjjhhmm(out: &mut [u8], at: usize, day: u32, hour: u32, minute: u32)
     requires { at + 7 ≤ length out.old }
     ensures { out.new ≡ sets out.old at (jjjhhmm day hour minute) }

@@ -47,7 +47,7 @@ module _ {A : Type 0} (none : A) (given : Judged → A) (roomy : Bool) (s statio
 
       judged : station_ok station ≡ true → (a : Bool) → eqb j.number 0 ≡ a → (b : Bool) → j.quiet ≡ b → P (outcome_of none given j)
       judged n false a b q = rw (refused none given j (eqb-false j.number 0 a)) refuse
-      judged n true a true q = let z = eqb-true j.number 0 a in rw (quiet none given j z q) (calm z)
+      judged n true a true q = let z = eqb-true j.number 0 a in rw (quiet none given j z q, z) (calm z)
       judged n true a false q = let z = eqb-true j.number 0 a in rw (alert none given j z q) (give z (ready s station j (rw n) z q))
 
       named : (b : Bool) → station_ok station ≡ b → P (outcome_of none given (judged_for s station))

@@ -39,7 +39,7 @@ module _ {A : Type 0} (none : A) (given : Judged → A) where
     unfolding outcome_of
     refused e = rw (ne_eqb j.number 0 e)
 
-    pub quiet : j.number ≡ 0 → j.quiet ≡ true → outcome_of none given j ≡ alone none 0 j.field
+    pub quiet : j.number ≡ 0 → j.quiet ≡ true → outcome_of none given j ≡ alone none j.number j.field
     unfolding outcome_of
     quiet e q = rw (e, q)
 

@@ -16,7 +16,8 @@ use judgement::Judged;
 use outputs::TextAudio;
 use parts::{Body, Parts};
 
-// What the call for header and must-carry answers: the number and the field; how long the header is; must-carry.
+// What the call for header and must-carry answers: the number and the field; how long the header is; must-carry. The numbers are those that C is
+// answered, and a refusal has zeros elsewhere: `header_answer_of` promises both.
 #[derive(Drop)]
 pub struct Headed {
     pub number: u32,
@@ -42,8 +43,8 @@ fn no_header(number: u32, field: u32) -> Headed
     ensures { result ≡ header_answer_of (alone no_header number field) }
 {
     Headed {
-        number: number,
-        field: field,
+        number,
+        field,
         header: 0,
         carry: false,
     }
@@ -56,14 +57,8 @@ fn put_header(station: &[u8], b: Body, out: &mut [u8]) -> usize
     ensures value { result ≡ length (station_header station.now b) }
     ensures out_after { out.new ≡ sets out.old 0 (station_header station.now b) }
 {
-    let named = parts::eight_at(station, 0);
-    header::put_header(
-        out,
-        Parts {
-            body: b,
-            station: named,
-        },
-    );
+    let station = parts::bytes_at(station, 0);
+    header::put_header(out, Parts { body: b, station });
     35 + 7 * b.count
 }
 
@@ -75,19 +70,12 @@ fn write_header(s: &[u8], station: &[u8], j: Judged, out: &mut [u8]) -> Headed
     ensures value { result ≡ header_answer_of (record { number = 0; field = j.field; given = header_by s.now station.now j }) }
     ensures out_after { out.new ≡ sets out.old 0 (header_by s.now station.now j).header }
 {
-    let body = j.body;
-    let m = j.message;
-    let a = m.alert;
-    let i = a.info;
-    let parameters = i.parameters;
-    let carry = parameters.leaf[reads::MUST_CARRY];
-    let carried = values::equal(s, carry.at, b"True");
-    let headed = put_header(station, body, out);
+    let must_carry = j.message.alert.info.parameters.leaf[reads::MUST_CARRY];
     Headed {
         number: 0,
         field: j.field,
-        header: headed,
-        carry: carried,
+        header: put_header(station, j.body, out),
+        carry: values::equal(s, must_carry.at, b"True"),
     }
 }
 
@@ -100,11 +88,8 @@ pub fn header(message: &[u8], station: &[u8], out: &mut [u8]) -> Headed
         return no_header(2, 0);
     }
     let j = judge(message, station);
-    if j.number != 0 {
+    if j.number != 0 || j.quiet {
         return no_header(j.number, j.field);
-    }
-    if j.quiet {
-        return no_header(0, j.field);
     }
     write_header(message, station, j, out)
 }
@@ -117,22 +102,14 @@ fn put_text(s: &[u8], j: Judged, out: &mut [u8]) -> usize
     ensures value { result ≡ length (utf8 (text_in s.now j)) }
     ensures out_after { out.new ≡ sets out.old 0 (utf8 (text_in s.now j)) }
 {
-    let body = j.body;
-    let m = j.message;
-    let a = m.alert;
-    let i = a.info;
-    let parameters = i.parameters;
-    let eas = parameters.leaf[reads::EAS_TEXT];
-    let sender = i.leaf[reads::SENDER_NAME];
-    let description = i.leaf[reads::DESCRIPTION];
-    let instruction = i.leaf[reads::INSTRUCTION];
+    let info = j.message.alert.info;
     wording::write_text(
         s,
-        body,
-        eas.at,
-        sender.at,
-        description.at,
-        instruction.at,
+        j.body,
+        info.parameters.leaf[reads::EAS_TEXT].at,
+        info.leaf[reads::SENDER_NAME].at,
+        info.leaf[reads::DESCRIPTION].at,
+        info.leaf[reads::INSTRUCTION].at,
         out,
     )
 }
@@ -147,18 +124,13 @@ fn write_text(s: &[u8], j: Judged, text: &mut [u8], uri: &mut [u8]) -> TextAudio
     ensures text_after { text.new ≡ sets text.old 0 (text_by s.now j).text }
     ensures uri_after { uri.new ≡ sets uri.old 0 (text_by s.now j).uri }
 {
-    let m = j.message;
-    let a = m.alert;
-    let i = a.info;
-    let audio = i.audio;
-    let worded = put_text(s, j, text);
-    let linked = outputs::put_uri(s, audio, uri);
+    let audio = j.message.alert.info.audio;
     TextAudio {
         number: 0,
         field: j.field,
         audio: audio.number,
-        uri: linked,
-        text: worded,
+        uri: outputs::put_uri(s, audio, uri),
+        text: put_text(s, j, text),
     }
 }
 
@@ -172,11 +144,8 @@ pub fn text(message: &[u8], station: &[u8], text: &mut [u8], uri: &mut [u8]) -> 
         return outputs::answer_alone(2, 0);
     }
     let j = judge(message, station);
-    if j.number != 0 {
+    if j.number != 0 || j.quiet {
         return outputs::answer_alone(j.number, j.field);
-    }
-    if j.quiet {
-        return outputs::answer_alone(0, j.field);
     }
     write_text(message, j, text, uri)
 }

@@ -13,7 +13,7 @@ use prog.Memory.{Memory}
 use prog.Routine.{Routine}
 use types.Logic.{Logic}
 use contract.Monad.{Fun, fact, fact_i, fact_use}
-use Rattle.clock.specs.declared.Time.{Time}
+use Rattle.std.specs.Prelude.{Option}
 use Rattle.clock.proofs.instant.Reads as instant
 use Rattle.clock.proofs.period.Reads as period
 use Rattle.parts.specs.declared.Parts.{Parts}
@@ -63,7 +63,7 @@ one p q = p ∙ sym q
 
 -- ---- times and headers
 
-pub instant-determined : (κs : Lifetimes 1) (a x x' : Slices 1) (r r' : Time) → instant.Learnt κs a r x → instant.Learnt κs a r' x' → r ≡ r'
+pub instant-determined : (κs : Lifetimes 1) (a x x' : Slices 1) (r r' : Option ℕ) → instant.Learnt κs a r x → instant.Learnt κs a r' x' → r ≡ r'
 instant-determined κs a x x' r r' p q = one p q
 
 pub period-determined : (κs : Lifetimes 0) (a x x' : ℕ × Unit {0}) (r r' : ℕ) → period.Learnt κs a r x → period.Learnt κs a r' x' → r ≡ r'

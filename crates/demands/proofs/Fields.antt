@@ -11,7 +11,7 @@ use mathlib.Core.List.{List, [], ◌∷◌}
 use lib.Dec.{eqb}
 use Rattle.octets.specs.Bytes.{pick, every, is_visible}
 use Rattle.clock.specs.Time.{time_of, is_time}
-use Rattle.clock.specs.declared.Time.{Time}
+use Rattle.std.specs.Prelude.{Option, None}
 use Rattle.fields.specs.Fields as fields
 use Rattle.fields.specs.WorkingFields as working-fields
 use Rattle.fields.specs.WorkingFields.{group_ok, references_ok}
@@ -40,7 +40,7 @@ module _ (s p : List ℕ) (w : String) (t : Forest) (r : AllReal s t) where
   unfolding identified fields.identity_ok fields.is_identity_byte is_visible
   identified-is = rw (leaf-once s p w t r, leaf-value s p w t r)
 
-  pub timed-is : timed s (leaf_in s p w t) ≡ pick (once s p w t) (time_of (value_of s p w t)) Time.Bad
+  pub timed-is : timed s (leaf_in s p w t) ≡ pick (once s p w t) (time_of (value_of s p w t)) None
   unfolding timed
   timed-is = rw (leaf-once s p w t r, leaf-value s p w t r)
 
@@ -104,7 +104,7 @@ lowest-is false false false false false true g = refl
 lowest-is false false false false false false true = refl
 lowest-is false false false false false false false = refl
 
-time-read : (b : Bool) (x : Time) → is_time (pick b x Time.Bad) ≡ (b && is_time x)
+time-read : (b : Bool) (x : Option ℕ) → is_time (pick b x None) ≡ (b && is_time x)
 time-read true x = refl
 time-read false x = refl
 

@@ -15,13 +15,11 @@ use Rattle.octets.specs.Bytes.{pick, every, same}
 use Rattle.octets.specs.Text.{bytes}
 use Rattle.octets.proofs.Tests.{each_of, every_first, every_rest}
 use Rattle.clock.specs.Time.{time_of, is_time, instant_in}
-use Rattle.clock.specs.declared.Time.{Time}
-use Rattle.clock.specs.declared.Time.TheVariants.{At}
 use Rattle.values.specs.Value.{value_at}
 use Rattle.parts.specs.Originator.{originator_bytes, originator_of, is_known}
 use Rattle.parts.specs.Parts.{event_ok}
 use Rattle.parts.specs.declared.Originator.TheVariants.{Pep, Eas, Wxr, Civ}
-use Rattle.parts.specs.declared.Origin.TheVariants.{Known, Unknown}
+use Rattle.std.specs.Prelude.{Option, Some, None}
 use Rattle.reads.specs.WorkingLeaves.{no_leaf, eas_org_leaf}
 use Rattle.reads.specs.declared.Info.{Info}
 use Rattle.reads.specs.declared.Leaf.{Leaf}
@@ -130,7 +128,7 @@ unfolding originator_of originator_bytes
 known_is v = go (is "PEP" v) (is "EAS" v) (is "WXR" v) (is "CIV" v)
   where
     go : (a b c d : Bool) →
-        is_known (pick a (Known Pep) (pick b (Known Eas) (pick c (Known Wxr) (pick d (Known Civ) Unknown)))) ≡ (a || (b || (c || (d || false))))
+        is_known (pick a (Some Pep) (pick b (Some Eas) (pick c (Some Wxr) (pick d (Some Civ) None)))) ≡ (a || (b || (c || (d || false))))
     go true b c d = refl
     go false true c d = refl
     go false false true d = refl
@@ -138,7 +136,7 @@ known_is v = go (is "PEP" v) (is "EAS" v) (is "WXR" v) (is "CIV" v)
     go false false false false = refl
 
 -- absent means CIV
-first-origin : (vs : List (List ℕ)) → pick (is_none vs) (Known Civ) (originator_of (first_value vs)) ≡ originator_of (first_value (vs ++ (bytes "CIV" ∷ [])))
+first-origin : (vs : List (List ℕ)) → pick (is_none vs) (Some Civ) (originator_of (first_value vs)) ≡ originator_of (first_value (vs ++ (bytes "CIV" ∷ [])))
 unfolding originator_of originator_bytes same bytes
 first-origin [] = refl
 first-origin (v ∷ vs) = refl
@@ -146,9 +144,9 @@ first-origin (v ∷ vs) = refl
 -- ---- expires
 
 -- not after: 0 seconds are left
-left-none : (x : Time) (n : ℕ) → eqb (instant_in x - n) 0 ≡ not (is_time x && ltb n (instant_in x))
-left-none Time.Bad n = eq-eqb (0 - n) 0 (omega arith)
-left-none (At m) n = go (dec_lt n m)
+left-none : (x : Option ℕ) (n : ℕ) → eqb (instant_in x - n) 0 ≡ not (is_time x && ltb n (instant_in x))
+left-none None n = eq-eqb (0 - n) 0 (omega arith)
+left-none (Some m) n = go (dec_lt n m)
   where
     go : Dec (n < m) → eqb (m - n) 0 ≡ not (ltb n m)
     go (yes l) = rw (lt-ltb n m l) (ne_eqb (m - n) 0 (omega arith))

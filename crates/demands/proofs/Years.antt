@@ -12,8 +12,8 @@ use mathlib.Core.Bool.{Bool, true, false}
 use mathlib.Core.List.{List, [], ◌∷◌, ◌++◌, map}
 use native.Mathlib.Omega.{arith}
 use lib.ListN.{take, replicate}
-use Rattle.octets.specs.declared.Order.{Order}
-use Rattle.octets.specs.declared.Order.TheVariants.{Less, Same, More}
+use Rattle.std.specs.declared.cmp.Ordering.{Ordering}
+use Rattle.std.specs.declared.cmp.Ordering.TheVariants.{Less, Equal, Greater}
 use Rattle.octets.specs.Order.{cmp, choose}
 use Rattle.octets.specs.Text.{bytes}
 use Rattle.octets.proofs.Orders.{Way, way, first_below, first_above, first-equal, cmp-refl, starts-decide}
@@ -119,13 +119,13 @@ two_bytes : (y z : ℕ) → y ≤ 2099 → z ≤ 2099 → cmp (be2 y) (be2 z) �
 two_bytes y z ly lz = go (way y z) (way (y / 256 % 256) (z / 256 % 256))
   where
     go : Way y z → Way (y / 256 % 256) (z / 256 % 256) → cmp (be2 y) (be2 z) ≡ cmp (y ∷ []) (z ∷ [])
-    go (Way.below l) (Way.below h) = first_below (y / 256 % 256) (z / 256 % 256) _ h ∙ sym (first_below y z Same l)
-    go (Way.below l) (Way.equal h) = first-equal (y / 256 % 256) (z / 256 % 256) _ h ∙ first_below (y % 256) (z % 256) Same (omega arith) ∙ sym (first_below y z Same l)
+    go (Way.below l) (Way.below h) = first_below (y / 256 % 256) (z / 256 % 256) _ h ∙ sym (first_below y z Equal l)
+    go (Way.below l) (Way.equal h) = first-equal (y / 256 % 256) (z / 256 % 256) _ h ∙ first_below (y % 256) (z % 256) Equal (omega arith) ∙ sym (first_below y z Equal l)
     go (Way.below l) (Way.above h) = absurd (omega arith)
-    go (Way.equal l) h = ap (λ (n : ℕ). cmp (be2 y) (be2 n)) (sym l) ∙ cmp-refl (be2 y) ∙ sym (first-equal y z Same l)
+    go (Way.equal l) h = ap (λ (n : ℕ). cmp (be2 y) (be2 n)) (sym l) ∙ cmp-refl (be2 y) ∙ sym (first-equal y z Equal l)
     go (Way.above l) (Way.below h) = absurd (omega arith)
-    go (Way.above l) (Way.equal h) = first-equal (y / 256 % 256) (z / 256 % 256) _ h ∙ first_above (y % 256) (z % 256) Same (omega arith) ∙ sym (first_above y z Same l)
-    go (Way.above l) (Way.above h) = first_above (y / 256 % 256) (z / 256 % 256) _ h ∙ sym (first_above y z Same l)
+    go (Way.above l) (Way.equal h) = first-equal (y / 256 % 256) (z / 256 % 256) _ h ∙ first_above (y % 256) (z % 256) Equal (omega arith) ∙ sym (first_above y z Equal l)
+    go (Way.above l) (Way.above h) = first_above (y / 256 % 256) (z / 256 % 256) _ h ∙ sym (first_above y z Equal l)
 
 -- the UTC year of a notice's sent
 abbrev sent_year : List ℕ → ℕ
@@ -133,12 +133,12 @@ sent_year r = (stamp_of (sent_in (key r))).year
 
 -- of any two notices that keep their rules: by header, then year, as a number
 module _ (q r : List ℕ) (okq : record_ok q ≡ true) (okr : record_ok r ≡ true) (nq : kind q ≡ 1) (nr : kind r ≡ 1) where
-  pub header-then-year : cmp (carried q) (carried r) ≡ choose (cmp (header q) (header r)) Less (cmp (sent_year q ∷ []) (sent_year r ∷ [])) More
+  pub header-then-year : cmp (carried q) (carried r) ≡ choose (cmp (header q) (header r)) Less (cmp (sent_year q ∷ []) (sent_year r ∷ [])) Greater
   unfolding dated
   header-then-year =
       ap₂ cmp (carried-is q nq) (carried-is r nr)
       ∙ starts-decide (header q) (header r) (be2 (sent_year q)) (be2 (sent_year r)) (header-long q (record-long q okq) ∙ sym (header-long r (record-long r okr)))
-      ∙ ap (λ (o : Order). choose (cmp (header q) (header r)) Less o More) (two_bytes (sent_year q) (sent_year r) (last q okq nq) (last r okr nr))
+      ∙ ap (λ (o : Ordering). choose (cmp (header q) (header r)) Less o Greater) (two_bytes (sent_year q) (sent_year r) (last q okq nq) (last r okr nr))
     where
       last : (x : List ℕ) → record_ok x ≡ true → kind x ≡ 1 → sent_year x ≤ 2099
       last x ok n = (stamp-fits (sent_in (key x)) (key-low (key x) (of-notice x ok n).0)).last

@@ -4,7 +4,7 @@
 --     no-first, no_second                           a comma that is missing
 --     Parted: parted, sender-as, identifier-as, sent-as     both commas are there, and each part is judged as the run between them
 use Prim.Native.Nat.{ℕ, ◌+◌, ◌-◌, ◌≤◌, ◌<◌}
-use mathlib.Core.Path.{◌≡◌, sym, ap, ◌∙◌}
+use mathlib.Core.Path.{◌≡◌, refl, sym, ap, ◌∙◌}
 use mathlib.Core.Bool.{Bool, true, false}
 use mathlib.Core.List.{List, [], ◌∷◌, map}
 use native.Mathlib.Omega.{arith}
@@ -14,7 +14,8 @@ use Rattle.octets.specs.Bytes.{every}
 use Rattle.octets.proofs.Tests.{never, each_of, one-fails, between_is, below-between}
 use Rattle.octets.proofs.Everys.{last-decides}
 use Rattle.clock.specs.Time.{time_of, is_time}
-use Rattle.clock.specs.declared.Time.{Time}
+use Rattle.std.specs.Prelude.{Option, Some, None}
+use Rattle.std.specs.Option.{is_some}
 use Rattle.clock.proofs.Kept.{time-kept}
 use Rattle.values.specs.WorkingSteps.{low}
 use Rattle.values.proofs.Copies.{is_kept, low_same}
@@ -110,12 +111,18 @@ parted t a e ne b f nf =
       inside = omega arith;
     }
 
+time-there : (x : Option ℕ) → is_time x ≡ is_some x
+time-there (Some n) = refl
+time-there None = refl
+
 module _ {t : List ℕ} {a b : ℕ} (g : Parted t a b) where
-  pub sender-as : {r : Bool} → r ≡ identity_ok (take (a - 0) (drop 0 t)) → identity_ok (sender_of t) ≡ r
-  sender-as e = sym (e ∙ ap identity_ok g.sender)
+  pub sender-as : {r : Bool} → r ≡ identity_ok (take a t) → identity_ok (sender_of t) ≡ r
+  sender-as e =
+      let q : a ≡ a - 0 = omega arith in
+      sym (e ∙ ap (λ (n : ℕ). identity_ok (take n t)) q ∙ ap identity_ok g.sender)
 
   pub identifier-as : {r : Bool} → r ≡ identity_ok (take (b - (a + 1)) (drop (a + 1) t)) → identity_ok (identifier_of t) ≡ r
   identifier-as e = sym (e ∙ ap identity_ok g.identifier)
 
-  pub sent-as : {x : Time} {r : Bool} → x ≡ time_of (take (length t - (b + 1)) (drop (b + 1) t)) → r ≡ is_time x → is_time (time_of (sent_of t)) ≡ r
-  sent-as e h = sym (h ∙ ap is_time (e ∙ ap time_of g.sent))
+  pub sent-as : (x : Option ℕ) {r : Bool} → x ≡ time_of (take (length t - (b + 1)) (drop (b + 1) t)) → is_some x ≡ r → is_time (time_of (sent_of t)) ≡ r
+  sent-as x e h = sym (ap is_time (e ∙ ap time_of g.sent)) ∙ time-there x ∙ h

@@ -1,23 +1,25 @@
 -- Which runs are identities and times, and that a copy with a character more than the longest has is enough to tell.
---     identity-no, identity-is            a test that fails, and all of them holding
+--     identity-no, bytes-decide           a test that fails, and what the last one says
+--     left_out, let_in, unseen            the bytes of an identity
 --     identity-short, time-short          how long they are
 --     identity-kept                       an identity's characters are such as a copy keeps
 --     identity-copied, time-copied        copies of the first 65 and 26 characters are judged as the whole
-use Prim.Native.Nat.{ℕ, ◌+◌, ◌≤◌, ◌<◌}
+use Prim.Native.Nat.{ℕ, ◌≤◌, ◌<◌}
 use mathlib.Core.Path.{◌≡◌, refl, sym, ap, ◌∙◌}
-use mathlib.Core.Bool.{Bool, true, false, true≢false}
+use mathlib.Core.Bool.{Bool, true, false, ◌&&◌, true≢false, and-false, and-true}
+use mathlib.Core.Logic.{◌⊎◌, inl, inr}
+use Rattle.std.specs.List.{list_all}
 use mathlib.Core.List.{List, [], ◌∷◌, map}
 use native.Mathlib.Omega.{arith}
 use borrow.Author.Tests.{ne_eqb, eqb-true}
 use lib.Dec.{eqb}
-use lib.ListN.{length, take, drop, get_or, drop_of_length-le}
-use Rattle.octets.specs.Bytes.{every, holds, between, is_visible}
-use Rattle.octets.proofs.Parts.{tail_step}
-use Rattle.octets.proofs.Tests.{each_of, every_of, one-fails, every-step, every-stop, every-none, and_left, between-low, between-high, between_is, above-between}
+use lib.ListN.{length, take, get_or}
+use Rattle.octets.specs.Bytes.{every, holds, between, one_of, is_visible}
+use Rattle.octets.proofs.Tests.{each_of, one-fails, and_left, between-low, between-high, between_is, above-between}
 use Rattle.clock.specs.Time.{local_time, offset, utc, in_span, time_tests, time_of, is_time}
-use Rattle.clock.specs.declared.Time.{Time}
+use Rattle.std.specs.Prelude.{None}
 use Rattle.clock.proofs.Times.{time-no}
-use Rattle.octets.proofs.Everys.{every-weaker}
+use Rattle.octets.proofs.Everys.{every-weaker, last-decides}
 use Rattle.clock.proofs.Kept.{tests-kept}
 use Rattle.values.specs.WorkingSteps.{low}
 use Rattle.values.proofs.Copies.{is_kept, low_same, low-pick}
@@ -33,10 +35,6 @@ pub identity-no : (i : ℕ) (v : List ℕ) → get_or (identity_tests v) i true 
 unfolding identity_ok
 identity-no i v h = one-fails i (identity_tests v) h
 
-pub identity-is : (v : List ℕ) → 1 ≤ length v → length v ≤ 64 → every is_identity_byte v ≡ true → identity_ok v ≡ true
-unfolding identity_ok
-identity-is v l h e = every_of (identity_tests v) (between_is 1 64 (length v) l h, (e, tt))
-
 pub identity-short : (v : List ℕ) → identity_ok v ≡ true → length v ≤ 64
 unfolding identity_ok
 identity-short v h = between-high 1 64 (length v) (each_of (identity_tests v) h).0
@@ -44,23 +42,35 @@ identity-short v h = between-high 1 64 (length v) (each_of (identity_tests v) h)
 pub identity-long : (v : List ℕ) → 64 < length v → identity_ok v ≡ false
 identity-long v h = identity-no 0 v (above-between 1 64 (length v) h)
 
--- byte by byte: what is left from index i on decides
-module _ (t : List ℕ) (i : ℕ) (so : every is_identity_byte (drop i t) ≡ every is_identity_byte t) where
-  next-byte : i < length t → every is_identity_byte t ≡ every is_identity_byte (get_or t i 0 ∷ drop (i + 1) t)
-  next-byte h = sym so ∙ ap (λ (l : List ℕ). every is_identity_byte l) (tail_step t i h)
+-- where the length fits, its bytes decide
+pub bytes-decide : (v : List ℕ) → 1 ≤ length v → length v ≤ 64 → every is_identity_byte v ≡ identity_ok v
+unfolding identity_ok
+bytes-decide v l h = sym (last-decides (between 1 64 (length v) ∷ []) (every is_identity_byte v) (between_is 1 64 (length v) l h, tt))
 
-  pub byte-fails : i < length t → is_identity_byte (get_or t i 0) ≡ false → every is_identity_byte t ≡ false
-  byte-fails h e = next-byte h ∙ every-stop is_identity_byte (get_or t i 0) (drop (i + 1) t) e
+-- as an iterator tests them
+pub every-all : (f : ℕ → Bool) (v : List ℕ) → list_all f v ≡ every f v
+unfolding every
+every-all f [] = refl
+every-all f (c ∷ v) = ap (λ (b : Bool). f c && b) (every-all f v)
 
-  pub byte-passes : i < length t → is_identity_byte (get_or t i 0) ≡ true → every is_identity_byte (drop (i + 1) t) ≡ every is_identity_byte t
-  byte-passes h e = sym (next-byte h ∙ every-step is_identity_byte (get_or t i 0) (drop (i + 1) t) e)
+-- a byte that is left out, and one that is not
+pub left_out : (b : ℕ) → (b ≡ 38) ⊎ ((b ≡ 44) ⊎ (b ≡ 60)) → is_identity_byte b ≡ false
+unfolding is_identity_byte one_of
+left_out b (inl e) = rw e (and-false (is_visible 38))
+left_out b (inr (inl e)) = rw e (and-false (is_visible 44))
+left_out b (inr (inr e)) = rw e (and-false (is_visible 60))
 
-  pub bytes-end : length t ≤ i → every is_identity_byte t ≡ true
-  bytes-end h = sym so ∙ ap (λ (l : List ℕ). every is_identity_byte l) (drop_of_length-le t h) ∙ every-none is_identity_byte
+pub let_in : (b : ℕ) → ((b ≡ 38) ⊎ ((b ≡ 44) ⊎ (b ≡ 60)) → ⊥) → is_visible b ≡ is_identity_byte b
+unfolding is_identity_byte one_of
+let_in b n = rw (ne_eqb b 44 (λ e. n (inr (inl e))), ne_eqb b 60 (λ e. n (inr (inr e))), ne_eqb b 38 (λ e. n (inl e)), and-true)
+
+pub unseen : (b : ℕ) → is_visible b ≡ false → is_identity_byte b ≡ false
+unfolding is_identity_byte
+unseen b e = rw e
 
 -- ---- times
 
-pub time-not : (t : List ℕ) → (length t ≡ 25 → ⊥) → time_of t ≡ Time.Bad
+pub time-not : (t : List ℕ) → (length t ≡ 25 → ⊥) → time_of t ≡ None
 time-not t h = time-no 0 t (ne_eqb (length t) 25 h)
 
 pub time-short : (t : List ℕ) → is_time (time_of t) ≡ true → length t ≡ 25
@@ -87,7 +97,7 @@ identity-copied v = low_same identity_ok identity-kept (take 65 v) ∙ cut ident
 
 time-low : (v : List ℕ) → time_of (map low v) ≡ time_of v
 unfolding time_of
-time-low v = low-pick (λ (t : List ℕ). every holds (time_tests t)) tests-kept v (λ (t : List ℕ). in_span (utc (local_time t) (offset t))) Time.Bad
+time-low v = low-pick (λ (t : List ℕ). every holds (time_tests t)) tests-kept v (λ (t : List ℕ). in_span (utc (local_time t) (offset t))) None
 
 pub time-copied : (v : List ℕ) → time_of (map low (take 26 v)) ≡ time_of v
-time-copied v = time-low (take 26 v) ∙ cut time_of Time.Bad 25 (λ t h. time-not t (omega arith)) v
+time-copied v = time-low (take 26 v) ∙ cut time_of None 25 (λ t h. time-not t (omega arith)) v

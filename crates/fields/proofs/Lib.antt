@@ -1,6 +1,5 @@
 pub mod Buffers
 pub mod Identities
-pub mod Names
 pub mod Places
 pub mod Partings
 pub mod Groups

@@ -7,7 +7,7 @@ use native.Mathlib.Omega.{arith}
 use native.Mathlib.Decide.{dec_lt}
 use borrow.Author.Tests.{le-leb, lt-leb}
 use lib.Dec.{leb}
-use lib.ListN.{length, take, drop, replicate, length-map}
+use lib.ListN.{length, take, replicate, length-map}
 use lib.Seq.{sets}
 use Rattle.octets.specs.Bytes.{pick, every, holds, between, one_of}
 use Rattle.octets.proofs.Tests.{every_of, one-fails, every-step, every-stop, every-none}
@@ -18,7 +18,7 @@ use Rattle.fields.specs.WorkingFields.{group_ok, references_ok}
 use Rattle.fields.specs.References.{words}
 use Rattle.fields.specs.WorkingWords.{word_in, next_word, word_at}
 use Rattle.fields.specs.declared.Word.{Word}
-use Rattle.fields.proofs.Buffers.{put-long, taken_back}
+use Rattle.fields.proofs.Buffers.{put-long, taken_back, taken-long}
 use Rattle.fields.proofs.Groups.{group-low}
 use Rattle.fields.proofs.Words.{words-some, value-words, len_is}
 
@@ -72,8 +72,11 @@ module _ (s : List ℕ) (i : ℕ) (w : Word) (x : List ℕ) (e : w ≡ word_at s
   pub word_room : length x ≡ 155
   word_room = put-long (replicate {A = ℕ} 155 0) (map low (word_in s i)) x 155 w.len refl p low-long
 
-  pub word_copied : w.len ≤ 155 → take (w.len - 0) (drop 0 x) ≡ map low (word_in s i)
+  pub word-long : w.len ≤ 155 → w.len ≡ length (take w.len x)
+  word-long h = taken-long (replicate {A = ℕ} 155 0) (map low (word_in s i)) x 155 w.len refl p low-long h
+
+  pub word_copied : w.len ≤ 155 → take w.len x ≡ map low (word_in s i)
   word_copied h = taken_back (replicate {A = ℕ} 155 0) (map low (word_in s i)) x 155 w.len refl p low-long h
 
-  pub judged : w.len ≤ 155 → {r : Bool} → r ≡ group_ok (take (w.len - 0) (drop 0 x)) → group_ok (word_in s i) ≡ r
+  pub judged : w.len ≤ 155 → {r : Bool} → r ≡ group_ok (take w.len x) → group_ok (word_in s i) ≡ r
   judged h q = sym (q ∙ ap group_ok (word_copied h) ∙ group-low (word_in s i))

@@ -1,18 +1,19 @@
 -- What stands before and behind the first c of a run.
 --     up_to-take, behind-drop, parts-long     both as parts of the run, and how long they are
 --     parts-pass                             a test that c, what stands before it and what stands behind it pass
---     first-here, first_on, first-none       where the first c stands, by the element at a place
-use Prim.Native.Nat.{ℕ, suc, ◌+◌, ◌≤◌, ◌<◌}
+--     up_to-taken                            what stands before it, as an iterator takes it
+use Prim.Native.Nat.{ℕ, suc, ◌+◌, ◌≤◌}
 use mathlib.Core.Path.{◌≡◌, refl, ap, ◌∙◌}
-use mathlib.Core.Bool.{Bool, true, false}
+use mathlib.Core.Bool.{Bool, true, false, not, cond}
 use mathlib.Core.List.{List, [], ◌∷◌}
+use native.Mathlib.Numerals.{one-add}
 use native.Mathlib.Omega.{arith}
-use borrow.Author.Tests.{eq-eqb, ne_eqb, eqb-true}
+use Rattle.std.specs.List.{prefix_len}
+use borrow.Author.Tests.{eqb-true}
 use lib.Dec.{eqb}
-use lib.ListN.{length, take, drop, get_or, drop_of_length-le}
-use Rattle.octets.specs.Bytes.{every}
+use lib.ListN.{length, take, drop}
+use Rattle.octets.specs.Bytes.{pick, every}
 use Rattle.octets.proofs.Tests.{every-none, every-step, every_first, every_rest}
-use Rattle.octets.proofs.Parts.{tail_step}
 use Rattle.fields.specs.References.{up_to, behind}
 
 module _ (c : ℕ) where
@@ -48,6 +49,16 @@ module _ (c : ℕ) where
       go : (b : Bool) → eqb x c ≡ b → take (length (up_to c t)) t ≡ up_to c t → take (length (up_to c (x ∷ t))) (x ∷ t) ≡ up_to c (x ∷ t)
       go true e h = rw (up_to-stop x t e)
       go false e h = rw (up_to-more x t e) (ap (λ (l : List ℕ). x ∷ l) h)
+
+  -- as an iterator takes it
+  pub up_to-taken : (t : List ℕ) → take (prefix_len (λ b. not (eqb b c)) t) t ≡ up_to c t
+  unfolding up_to
+  up_to-taken [] = refl
+  up_to-taken (x ∷ t) = go (eqb x c) (up_to-taken t)
+    where
+      go : (b : Bool) → take (prefix_len (λ b. not (eqb b c)) t) t ≡ up_to c t → take (cond (not b) (1 + prefix_len (λ b. not (eqb b c)) t) 0) (x ∷ t) ≡ pick b [] (x ∷ up_to c t)
+      go true h = refl
+      go false h = rw one-add (ap (λ (l : List ℕ). x ∷ l) h)
 
   pub behind-drop : (t : List ℕ) → drop (length (up_to c t) + 1) t ≡ behind c t
   behind-drop [] = rw (up_to-none, behind-none)
@@ -85,21 +96,3 @@ module _ (c : ℕ) where
       go false e h =
           let u : every f (x ∷ up_to c t) ≡ true = rw (up_to-more x t e) at a in
           every-step f x t (every_first f x (up_to c t) u) ∙ h (every_rest f x (up_to c t) u) (rw (behind_more x t e) at b)
-
-  -- ---- where the first c stands from i on
-
-  module _ (t : List ℕ) (i : ℕ) where
-    pub first-here : i < length t → get_or t i 0 ≡ c → i ≡ i + length (up_to c (drop i t))
-    first-here h e =
-        let q : up_to c (drop i t) ≡ [] = ap (up_to c) (tail_step t i h) ∙ up_to-stop (get_or t i 0) (drop (i + 1) t) (eq-eqb (get_or t i 0) c e) in
-        rw q (omega arith)
-
-    pub first_on : i < length t → (get_or t i 0 ≡ c → ⊥) → i + 1 + length (up_to c (drop (i + 1) t)) ≡ i + length (up_to c (drop i t))
-    first_on h e =
-        let q : up_to c (drop i t) ≡ get_or t i 0 ∷ up_to c (drop (i + 1) t) = ap (up_to c) (tail_step t i h) ∙ up_to-more (get_or t i 0) (drop (i + 1) t) (ne_eqb (get_or t i 0) c e) in
-        rw q (omega arith)
-
-    pub first-none : length t ≤ i → i ≡ i + length (up_to c (drop i t))
-    first-none h =
-        let q : up_to c (drop i t) ≡ [] = ap (up_to c) (drop_of_length-le t h) ∙ up_to-none in
-        rw q (omega arith)

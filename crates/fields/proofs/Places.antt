@@ -1,37 +1,36 @@
 -- The place of a value among names, counted from 1, by its place in a table of them, counted from 0.
-use Prim.Native.Nat.{ℕ, suc, ◌+◌, ◌≤◌, ◌<◌}
+use Prim.Native.Nat.{ℕ, suc}
 use Prim.Native.String.{String}
-use mathlib.Core.Path.{◌≡◌, refl, sym, ap, ◌∙◌, subst⁻¹}
+use mathlib.Core.Path.{◌≡◌, refl, ap, ◌∙◌}
 use mathlib.Core.Bool.{Bool, true, false}
 use mathlib.Core.List.{List, [], ◌∷◌}
-use native.Mathlib.Numerals.{add-one}
-use native.Mathlib.Omega.{arith}
-use lib.ListN.{length}
+use Rattle.std.specs.Prelude.{Option, Some, None, option_map}
 use Rattle.octets.specs.Bytes.{pick, same}
 use Rattle.octets.specs.Text.{bytes}
 use Rattle.words.specs.WorkingWords.{which_of}
 use Rattle.fields.specs.WorkingFields.{place_on, index_in}
 
--- i is place k of n, counted from 1, and 0 past the last
-pub record Counted (n k i : ℕ) : Type 0 where
-  pub inside : k < n → k + 1 ≡ i
-  pub past : n ≤ k → 0 ≡ i
+-- counted from 1; 0 where there is none
+abbrev pub from_one : Option ℕ → ℕ
+from_one None = 0
+from_one (Some k) = suc k
 
-step : (b : Bool) {n k i : ℕ} → Counted n k i → Counted (suc n) (pick b 0 (suc k)) (pick b 1 (place_on i))
-step true c = record { inside = λ _. refl; past = λ h. absurd (omega arith) }
-step false {n} {k} {i} c = record {
-  inside = λ h. add-one (suc k) ∙ sym (ap place_on (add-one k)) ∙ ap place_on (c.inside (omega arith));
-  past = λ h. ap place_on (c.past (omega arith));
-}
+later : (o : Option ℕ) → from_one (option_map suc o) ≡ place_on (from_one o)
+later None = refl
+later (Some k) = refl
+
+turn : (b : Bool) (o : Option ℕ) (n : ℕ) → from_one o ≡ n → from_one (pick b (Some 0) (option_map suc o)) ≡ pick b 1 (place_on n)
+turn true o n e = refl
+turn false o n e = later o ∙ ap place_on e
 
 abbrev pub named : List String → List (List ℕ)
 named [] = []
 named (w ∷ ws) = bytes w ∷ named ws
 
-at_place : (ws : List String) (v : List ℕ) → Counted (length ws) (which_of (named ws) v) (index_in ws v)
+at_place : (ws : List String) (v : List ℕ) → from_one (which_of (named ws) v) ≡ index_in ws v
 unfolding which_of index_in
-at_place [] v = record { inside = λ h. absurd (omega arith); past = λ _. refl }
-at_place (w ∷ ws) v = step (same v (bytes w)) (at_place ws v)
+at_place [] v = refl
+at_place (w ∷ ws) v = turn (same v (bytes w)) (which_of (named ws) v) (index_in ws v) (at_place ws v)
 
-pub counted : (ws : List String) (t : List (List ℕ)) (v : List ℕ) {k : ℕ} → t ≡ named ws → k ≡ which_of t v → Counted (length ws) k (index_in ws v)
-counted ws t v e h = subst⁻¹ (λ (j : ℕ). Counted (length ws) j (index_in ws v)) (h ∙ ap (λ (u : List (List ℕ)). which_of u v) e) (at_place ws v)
+pub counted : (ws : List String) (t : List (List ℕ)) (v : List ℕ) {o : Option ℕ} → t ≡ named ws → o ≡ which_of t v → from_one o ≡ index_in ws v
+counted ws t v e h = ap from_one (h ∙ ap (λ (u : List (List ℕ)). which_of u v) e) ∙ at_place ws v

@@ -16,8 +16,7 @@ use Rattle.octets.proofs.Tests.{picked, passed_over}
 use Rattle.octets.proofs.Runs.{sets_more}
 use Rattle.values.specs.Value.{runs}
 use Rattle.values.specs.WorkingSteps.{rest_at, step_at, low}
-use Rattle.values.specs.declared.Got.{Got}
-use Rattle.values.specs.declared.Got.TheVariants.{Is, Done}
+use Rattle.std.specs.Prelude.{Option, Some, None}
 use Rattle.values.proofs.Texts.{text-past}
 use Rattle.values.proofs.Steps.{step-more, step-done}
 use Rattle.fields.specs.References.{up_to, behind, longer, words}
@@ -74,38 +73,38 @@ module _ (s : List ℕ) where
   unfolding next_from
   next-none i = refl
 
-  next-turn : (n i : ℕ) (g : Got) → step_at s i ≡ g → next_from s (suc n) i ≡ word_on (length s) g (next_from s n)
+  next-turn : (n i : ℕ) (g : Option (ℕ × ℕ)) → step_at s i ≡ g → next_from s (suc n) i ≡ word_on (length s) g (next_from s n)
   unfolding next_from
-  next-turn n i g e = ap (λ (x : Got). word_on (length s) x (next_from s n)) e
+  next-turn n i g e = ap (λ (x : Option (ℕ × ℕ)). word_on (length s) x (next_from s n)) e
 
-  next-space : (n i c j : ℕ) → step_at s i ≡ Is c j → eqb c 32 ≡ true → next_from s (suc n) i ≡ j
+  next-space : (n i c j : ℕ) → step_at s i ≡ Some (c, j) → eqb c 32 ≡ true → next_from s (suc n) i ≡ j
   unfolding word_on
-  next-space n i c j e b = next-turn n i (Is c j) e ∙ picked (eqb c 32) j (next_from s n j) b
+  next-space n i c j e b = next-turn n i (Some (c, j)) e ∙ picked (eqb c 32) j (next_from s n j) b
 
-  next-char : (n i c j : ℕ) → step_at s i ≡ Is c j → eqb c 32 ≡ false → next_from s (suc n) i ≡ next_from s n j
+  next-char : (n i c j : ℕ) → step_at s i ≡ Some (c, j) → eqb c 32 ≡ false → next_from s (suc n) i ≡ next_from s n j
   unfolding word_on
-  next-char n i c j e b = next-turn n i (Is c j) e ∙ passed_over (eqb c 32) j (next_from s n j) b
+  next-char n i c j e b = next-turn n i (Some (c, j)) e ∙ passed_over (eqb c 32) j (next_from s n j) b
 
-  next-done : (n i : ℕ) → step_at s i ≡ Done → next_from s n i ≡ length s
+  next-done : (n i : ℕ) → step_at s i ≡ None → next_from s n i ≡ length s
   unfolding word_on
   next-done zero i e = next-none i
-  next-done (suc n) i e = next-turn n i Done e
+  next-done (suc n) i e = next-turn n i None e
 
   next-behind : (n i : ℕ) → length s < i + n → rest_at s (next_from s n i) ≡ behind 32 (rest_at s i)
   next-behind zero i h =
       ap (rest_at s) (next-none i) ∙ rest-past (length s) (omega arith) ∙ sym (ap (behind 32) (rest-past i (omega arith)) ∙ behind-none 32)
   next-behind (suc n) i h = go (step_at s i) refl (λ j k. next-behind n j k)
     where
-      turn : (c j : ℕ) (b : Bool) → eqb c 32 ≡ b → step_at s i ≡ Is c j → ((j : ℕ) → length s < j + n → rest_at s (next_from s n j) ≡ behind 32 (rest_at s j)) → rest_at s (next_from s (suc n) i) ≡ behind 32 (rest_at s i)
+      turn : (c j : ℕ) (b : Bool) → eqb c 32 ≡ b → step_at s i ≡ Some (c, j) → ((j : ℕ) → length s < j + n → rest_at s (next_from s n j) ≡ behind 32 (rest_at s j)) → rest_at s (next_from s (suc n) i) ≡ behind 32 (rest_at s i)
       turn c j true b e ih =
           ap (rest_at s) (next-space n i c j e b) ∙ sym (ap (behind 32) (step-more s i c j e).0 ∙ behind-stop 32 c (rest_at s j) b)
       turn c j false b e ih =
           let l = (step-more s i c j e).1.on in
           ap (rest_at s) (next-char n i c j e b) ∙ ih j (omega arith) ∙ sym (ap (behind 32) (step-more s i c j e).0 ∙ behind_more 32 c (rest_at s j) b)
 
-      go : (g : Got) → step_at s i ≡ g → ((j : ℕ) → length s < j + n → rest_at s (next_from s n j) ≡ behind 32 (rest_at s j)) → rest_at s (next_from s (suc n) i) ≡ behind 32 (rest_at s i)
-      go (Is c j) e ih = turn c j (eqb c 32) refl e ih
-      go Done e ih = ap (rest_at s) (next-done (suc n) i e) ∙ rest-past (length s) (omega arith) ∙ sym (ap (behind 32) (step-done s i e) ∙ behind-none 32)
+      go : (g : Option (ℕ × ℕ)) → step_at s i ≡ g → ((j : ℕ) → length s < j + n → rest_at s (next_from s n j) ≡ behind 32 (rest_at s j)) → rest_at s (next_from s (suc n) i) ≡ behind 32 (rest_at s i)
+      go (Some (c, j)) e ih = turn c j (eqb c 32) refl e ih
+      go None e ih = ap (rest_at s) (next-done (suc n) i e) ∙ rest-past (length s) (omega arith) ∙ sym (ap (behind 32) (step-done s i e) ∙ behind-none 32)
 
   pub word-behind : (i : ℕ) → rest_at s (next_word s i) ≡ behind 32 (rest_at s i)
   unfolding next_word
@@ -131,9 +130,14 @@ unfolding next_word
 word-starts s at d = record { counts = omega arith; long = refl; puts = refl; sizes = omega arith; more = refl; fuel = suc (length s); room = omega arith; onto = refl }
 
 -- a word by its parts
-word_made : (s : List ℕ) (i : ℕ) (l n : ℕ) (m : Bool) → l ≡ length (word_in s i) → n ≡ next_word s i → m ≡ one_of (rest_at s i) 32 → ◌≡◌ {A = Word} (record { len = l; next = n; more = m }) (word_at s i)
-unfolding word_at
-word_made s i l n m p q r = rw (p, q, r)
+module _ (s : List ℕ) (i l : ℕ) (p : l ≡ length (word_in s i)) where
+  last_made : false ≡ one_of (rest_at s i) 32 → ◌≡◌ {A = Word} (record { len = l; next = None }) (word_at s i)
+  unfolding word_at
+  last_made m = rw (p, sym m)
+
+  more_made : (n : ℕ) → n ≡ next_word s i → true ≡ one_of (rest_at s i) 32 → ◌≡◌ {A = Word} (record { len = l; next = Some n }) (word_at s i)
+  unfolding word_at
+  more_made n q m = rw (p, q, sym m)
 
 -- and its parts
 module _ (s : List ℕ) (i : ℕ) (w : Word) (e : w ≡ word_at s i) where
@@ -141,13 +145,23 @@ module _ (s : List ℕ) (i : ℕ) (w : Word) (e : w ≡ word_at s i) where
   unfolding word_at
   len_is = ap (λ (x : Word). x.len) e
 
-  pub next-is : w.next ≡ next_word s i
+  next-pick : w.next ≡ pick (one_of (rest_at s i) 32) (Some (next_word s i)) None
   unfolding word_at
-  next-is = ap (λ (x : Word). x.next) e
+  next-pick = ap (λ (x : Word). x.next) e
 
-  pub more-is : w.more ≡ one_of (rest_at s i) 32
-  unfolding word_at
-  more-is = ap (λ (x : Word). x.more) e
+  pub more-is : (j : ℕ) → w.next ≡ Some j → (one_of (rest_at s i) 32 ≡ true) × (j ≡ next_word s i)
+  more-is j h = go (one_of (rest_at s i) 32) (sym h ∙ next-pick)
+    where
+      go : (b : Bool) → ◌≡◌ {A = Option ℕ} (Some j) (pick b (Some (next_word s i)) None) → (b ≡ true) × (j ≡ next_word s i)
+      go true q = (refl, cc)
+      go false q = cc
+
+  pub last-is : w.next ≡ None → one_of (rest_at s i) 32 ≡ false
+  last-is h = go (one_of (rest_at s i) 32) (sym h ∙ next-pick)
+    where
+      go : (b : Bool) → ◌≡◌ {A = Option ℕ} None (pick b (Some (next_word s i)) None) → b ≡ false
+      go true q = cc
+      go false q = refl
 
 module _ {s : List ℕ} {at : ℕ} {d x : List ℕ} {i k : ℕ} (r : Wording s at d x i k) where
   -- the loop is at the word's end
@@ -157,27 +171,27 @@ module _ {s : List ℕ} {at : ℕ} {d x : List ℕ} {i k : ℕ} (r : Wording s a
       let z : length (word_in s i) ≡ 0 = ap length e in
       (omega arith, ap (λ (l : List ℕ). sets x k (map low l)) (sym e) ∙ r.puts)
 
-  pub word-done : step_at s i ≡ Done → (◌≡◌ {A = Word} (record { len = k; next = length s; more = false }) (word_at s at)) × (x ≡ sets d 0 (map low (word_in s at)))
+  pub word-done : step_at s i ≡ None → (◌≡◌ {A = Word} (record { len = k; next = None }) (word_at s at)) × (x ≡ sets d 0 (map low (word_in s at)))
   word-done e =
       let z = step-done s i e in
       let w = ended (ap (up_to 32) z ∙ up_to-none 32) in
       let m : false ≡ one_of (rest_at s at) 32 = sym (ap (λ (l : List ℕ). one_of l 32) z ∙ space-none) ∙ r.more in
-      (word_made s at k (length s) false w.0 (sym (next-done s r.fuel i e) ∙ r.onto) m, w.1)
+      (last_made s at k w.0 m, w.1)
 
-  module _ (c j : ℕ) (e : step_at s i ≡ Is c j) where
+  module _ (c j : ℕ) (e : step_at s i ≡ Some (c, j)) where
     -- as the loop has not gone past the message's end, fuel is left
     left : (n : ℕ) → length s < i + n → next_from s n i ≡ next_word s at → (P : Type 0) → ((m : ℕ) → n ≡ suc m → next_from s (suc m) i ≡ next_word s at → P) → P
     left zero h o P f = let l = (step-more s i c j e).1.on in let g = (step-more s i c j e).1.in-it in absurd (omega arith)
     left (suc m) h o P f = f m refl o
 
-    pub word-space : c ≡ 32 → (◌≡◌ {A = Word} (record { len = k; next = j; more = true }) (word_at s at)) × (x ≡ sets d 0 (map low (word_in s at)))
+    pub word-space : c ≡ 32 → (◌≡◌ {A = Word} (record { len = k; next = Some j }) (word_at s at)) × (x ≡ sets d 0 (map low (word_in s at)))
     word-space q =
         let b : eqb c 32 ≡ true = eq-eqb c 32 q in
         let z = (step-more s i c j e).0 in
         let w = ended (ap (up_to 32) z ∙ up_to-stop 32 c (rest_at s j) b) in
         let m : true ≡ one_of (rest_at s at) 32 = sym (ap (λ (l : List ℕ). one_of l 32) z ∙ space-here c (rest_at s j) b) ∙ r.more in
         let n : j ≡ next_word s at = left r.fuel r.room r.onto (j ≡ next_word s at) (λ f p o. sym (next-space s f i c j e b) ∙ o) in
-        (word_made s at k j true w.0 n m, w.1)
+        (more_made s at k w.0 j n m, w.1)
 
     pub word_more : (c ≡ 32 → ⊥) → (a : ℕ) (y : List ℕ) → a ≡ low c → y ≡ sets x k (a ∷ []) → Wording s at d y j (k + 1)
     word_more q a y o p =

@@ -3,6 +3,9 @@ use Rattle.std.specs.Prelude.{ℕ, zero, suc, Bool, List, [], ◌∷◌, length}
 use Prim.Native.String.{String}
 use Rattle.octets.specs.Bytes.{pick, every, holds, between, same}
 use Rattle.octets.specs.Text.{bytes}
+use Rattle.std.specs.Prelude.{Option, Some, None}
+use Rattle.fields.specs.declared.Status.{Status}
+use Rattle.fields.specs.declared.Scope.{Scope}
 use Rattle.fields.specs.declared.MsgType.{MsgType}
 use Rattle.fields.specs.declared.MsgType.TheVariants.{Unknown, Alert, Update, Cancel, Ack, Error}
 use Rattle.clock.specs.Time.{time_of, is_time}
@@ -24,6 +27,21 @@ statuses = "Actual" ∷ "Exercise" ∷ "System" ∷ "Test" ∷ "Draft" ∷ []
 
 abbrev pub scopes : List String
 scopes = "Public" ∷ "Restricted" ∷ "Private" ∷ []
+
+-- and their places
+abbrev pub status_place : Option Status → ℕ
+status_place None = 0
+status_place (Some Status.Actual) = 1
+status_place (Some Status.Exercise) = 2
+status_place (Some Status.System) = 3
+status_place (Some Status.Test) = 4
+status_place (Some Status.Draft) = 5
+
+abbrev pub scope_place : Option Scope → ℕ
+scope_place None = 0
+scope_place (Some Scope.Public) = 1
+scope_place (Some Scope.Restricted) = 2
+scope_place (Some Scope.Private) = 3
 
 -- the msgType of CAP 1.2 that the value is; Unknown where it is none of them
 unfoldable pub msg_type_in : List ℕ → MsgType

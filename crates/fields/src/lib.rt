@@ -7,24 +7,38 @@ ghost use Rattle.clock.specs.Time.{time_of};
 ghost use Rattle.values.specs.Value.{value_at};
 ghost use Rattle.values.specs.WorkingSteps.{low};
 ghost use Rattle.fields.specs.Fields.{is_identity_byte, identity_ok};
-ghost use Rattle.fields.specs.WorkingFields.{index_in, statuses, scopes, msg_type_in};
+ghost use Rattle.fields.specs.WorkingFields.{index_in, statuses, scopes, status_place, scope_place, msg_type_in};
 ghost use Rattle.fields.specs.References.{up_to};
 ghost use Rattle.fields.specs.WorkingFields.{group_ok, references_ok};
 ghost use Rattle.fields.specs.WorkingWords.{word_in, word_at};
 
-use clock::Time;
-use values::Got;
-
-// A word of a value: how many characters it has, whether another follows, and where that begins.
+// A word of a value: how many characters it has, and where the next one begins, if another follows.
 #[derive(Drop)]
 pub struct Word {
     pub len: usize,
-    pub next: usize,
-    pub more: bool,
+    pub next: Option<usize>,
 }
 
-// The msgTypes of CAP 1.2; Unknown where the value is none of them, or there is no such leaf.
-#[derive(Clone, Copy)]
+// The statuses of CAP 1.2.
+#[derive(Clone, Copy, PartialEq, Eq)]
+pub enum Status {
+    Actual,
+    Exercise,
+    System,
+    Test,
+    Draft,
+}
+
+// The scopes of CAP 1.2.
+#[derive(Clone, Copy, PartialEq, Eq)]
+pub enum Scope {
+    Public,
+    Restricted,
+    Private,
+}
+
+// The msgTypes of CAP 1.2; Unknown where the value is none of them, or there is no such leaf, as `msg_type_in` and the message of a refusal have it.
+#[derive(Clone, Copy, PartialEq, Eq)]
 pub enum MsgType {
     Unknown,
     Alert,
@@ -39,36 +53,14 @@ pub enum MsgType {
 fn is_identity_byte(b: u8) -> bool
     ensures { result ≡ is_identity_byte b }
 {
-    if b == 44 {
-        return false;
-    }
-    if b == 60 {
-        return false;
-    }
-    if b == 38 {
-        return false;
-    }
-    octets::is_visible(b)
+    octets::is_visible(b) && !matches!(b, b'<' | b',' | b'&')
 }
 
 // Whether t is a sender or an identifier.
 pub fn is_identity(t: &[u8]) -> bool
     ensures { result ≡ identity_ok t.now }
 {
-    if t.len() == 0 {
-        return false;
-    }
-    if 64 < t.len() {
-        return false;
-    }
-    let mut i: usize = 0;
-    while i < t.len() {
-        if !is_identity_byte(t[i]) {
-            return false;
-        }
-        i += 1;
-    }
-    true
+    matches!(t.len(), 1..=64) && t.iter().all(|b| is_identity_byte(*b))
 }
 
 pub fn identity_at(s: &[u8], at: usize) -> bool
@@ -76,83 +68,70 @@ pub fn identity_at(s: &[u8], at: usize) -> bool
 {
     let mut b = [0u8; 65];
     let n = values::copy(s, at, 65, &mut b, 0);
-    is_identity(&b[0..n])
+    is_identity(&b[..n])
 }
 
 // ---- times
 
-pub fn time_at(s: &[u8], at: usize) -> Time
+pub fn time_at(s: &[u8], at: usize) -> Option<u32>
     ensures { result ≡ time_of (value_at s.now at) }
 {
     let mut b = [0u8; 26];
     let n = values::copy(s, at, 26, &mut b, 0);
-    clock::instant(&b[0..n])
+    clock::instant(&b[..n])
 }
 
-// ---- status and scope: the values of CAP 1.2, counted from 1; 0 for any other
+// ---- status, scope and msgType
 
-pub fn status_at(s: &[u8], at: usize) -> u32
-    ensures { result ≡ index_in statuses (value_at s.now at) }
+// The status that the value is, if it is one of CAP 1.2.
+pub fn status_at(s: &[u8], at: usize) -> Option<Status>
+    ensures { status_place result ≡ index_in statuses (value_at s.now at) }
 {
-    let k = words::which_value(
+    match words::which_value(
         s,
         at,
         b"\x06\x08\x06\x04\x05",
         b"ActualExerciseSystemTestDraft",
-    );
-    if k < 5 {
-        return k as u32 + 1;
+    )? {
+        0 => Some(Status::Actual),
+        1 => Some(Status::Exercise),
+        2 => Some(Status::System),
+        3 => Some(Status::Test),
+        _ => Some(Status::Draft),
     }
-    0
 }
 
-pub fn scope_at(s: &[u8], at: usize) -> u32
-    ensures { result ≡ index_in scopes (value_at s.now at) }
+// The scope that the value is, if it is one of CAP 1.2.
+pub fn scope_at(s: &[u8], at: usize) -> Option<Scope>
+    ensures { scope_place result ≡ index_in scopes (value_at s.now at) }
 {
-    let k = words::which_value(s, at, b"\x06\x0a\x07", b"PublicRestrictedPrivate");
-    if k < 3 {
-        return k as u32 + 1;
+    match words::which_value(s, at, b"\x06\x0a\x07", b"PublicRestrictedPrivate")? {
+        0 => Some(Scope::Public),
+        1 => Some(Scope::Restricted),
+        _ => Some(Scope::Private),
     }
-    0
 }
-
-// ---- the msgType
 
 pub fn msg_type_at(s: &[u8], at: usize) -> MsgType
     ensures { result ≡ msg_type_in (value_at s.now at) }
 {
-    if values::equal(s, at, b"Alert") {
-        return MsgType::Alert;
+    match words::which_value(s, at, b"\x05\x06\x06\x03\x05", b"AlertUpdateCancelAckError") {
+        Some(0) => MsgType::Alert,
+        Some(1) => MsgType::Update,
+        Some(2) => MsgType::Cancel,
+        Some(3) => MsgType::Ack,
+        Some(_) => MsgType::Error,
+        None => MsgType::Unknown,
     }
-    if values::equal(s, at, b"Update") {
-        return MsgType::Update;
-    }
-    if values::equal(s, at, b"Cancel") {
-        return MsgType::Cancel;
-    }
-    if values::equal(s, at, b"Ack") {
-        return MsgType::Ack;
-    }
-    if values::equal(s, at, b"Error") {
-        return MsgType::Error;
-    }
-    MsgType::Unknown
 }
 
 // ---- a group: sender, identifier and sent, parted by commas
 
-// Where the first comma stands from `at` on; the end where there is none.
+// Where the first comma stands from `at` on; the end where there is none, for there too the part from `at` on ends.
 pub fn comma(t: &[u8], at: usize) -> usize
     ensures { result ≡ at + length (up_to 44 (drop at t.now)) }
 {
-    let mut i = at;
-    while i < t.len() {
-        if t[i] == 44 {
-            return i;
-        }
-        i += 1;
-    }
-    i
+    at + t.iter().skip(at).take_while(|b| **b != b',').count()
 }
 
 // Whether t is a group.
@@ -167,14 +146,7 @@ pub fn is_group(t: &[u8]) -> bool
     if b == t.len() {
         return false;
     }
-    if !is_identity(&t[0..a]) {
-        return false;
-    }
-    if !is_identity(&t[a + 1..b]) {
-        return false;
-    }
-    let sent = clock::instant(&t[b + 1..]);
-    clock::is_time(sent)
+    is_identity(&t[..a]) && is_identity(&t[a + 1..b]) && clock::instant(&t[b + 1..]).is_some()
 }
 
 // ---- references: groups parted by space
@@ -188,6 +160,7 @@ fn keep(out: &mut [u8], k: usize, c: u8)
     }
 }
 
+// Not an iterator's loop: each step tells where the next character stands.
 // The next word of a value from a place in it; as much of it as there is room for is put into `out`, each character as one byte.
 pub fn next_word(s: &[u8], at: usize, out: &mut [u8]) -> Word
     ensures value { result ≡ word_at s.now at }
@@ -195,49 +168,37 @@ pub fn next_word(s: &[u8], at: usize, out: &mut [u8]) -> Word
 {
     let mut i = at;
     let mut k: usize = 0;
-    loop {
-        let g = values::step(s, i);
-        let Got::Is(c, j) = g else {
-            return Word {
-                len: k,
-                next: s.len(),
-                more: false,
-            };
-        };
+    while let Some((c, j)) = values::step(s, i) {
         if c == 32 {
             return Word {
                 len: k,
-                next: j,
-                more: true,
+                next: Some(j),
             };
         }
         keep(out, k, values::low_of(c));
         i = j;
         k += 1;
     }
+    Word { len: k, next: None }
 }
+
+const MOST_GROUPS: usize = 16;
 
 // Whether the value is 1 to 16 groups parted by space; a group has 155 bytes at most.
 pub fn references_at(s: &[u8], at: usize) -> bool
     ensures { result ≡ references_ok (value_at s.now at) }
 {
     let mut i = values::lead(s, at);
-    let mut left: u32 = 16;
-    while 0 < left {
+    for _ in 0..MOST_GROUPS {
         let mut b = [0u8; 155];
         let w = next_word(s, i, &mut b);
-        let n = w.len;
-        if 155 < n {
+        if 155 < w.len || !is_group(&b[..w.len]) {
             return false;
         }
-        if !is_group(&b[0..n]) {
-            return false;
+        match w.next {
+            Some(j) => i = j,
+            None => return true,
         }
-        if !w.more {
-            return true;
-        }
-        i = w.next;
-        left -= 1;
     }
     false
 }

@@ -4,5 +4,3 @@ pub mod Infos
 pub mod Selects
 pub mod Gathers
 pub mod Passes
-pub mod Slots
-pub mod Ends

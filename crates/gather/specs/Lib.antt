@@ -1,4 +1,3 @@
 pub mod WorkingVisit
-pub mod WorkingLentVisit
 pub mod Read
 pub mod WorkingRead

@@ -1,8 +1,7 @@
 -- The pass over the tree: what is gathered of it, element by element.
 use Rattle.std.specs.Prelude.{ℕ, ◌+◌, List, [], ◌∷◌, length, get_or, set, eqb, ltb}
 use Rattle.octets.specs.Bytes.{pick}
-use Rattle.pieces.specs.declared.End.{End}
-use Rattle.pieces.specs.declared.End.TheVariants.{At, No}
+use Rattle.std.specs.Prelude.{Option, Some, None}
 use Rattle.markup.specs.Tree.{Tag, Forest, nil, text, elem, One, one, none, Held, held, bad}
 use Rattle.reads.specs.WorkingLeaves.{no_leaf, marked, found, no_info, nothing_read}
 use Rattle.reads.specs.Names.{context_of}
@@ -120,24 +119,28 @@ visit s p c st (elem g kids rest) =
     rest
 
 abbrev pub nothing_got : ℕ → Gathered
-nothing_got n = record { end = No; state = nothing_read n }
+nothing_got n = record { end = None; state = nothing_read n }
 
 -- an answer as it counts: what does not end has gathered nothing, whatever state is handed back
-abbrev pub settled_as : ℕ → End → Gathered → Gathered
-settled_as n (At e) r = r
-settled_as n No r = nothing_got n
+abbrev pub settled_as : ℕ → Option ℕ → Gathered → Gathered
+settled_as n (Some e) r = r
+settled_as n None r = nothing_got n
 
 abbrev pub settled : ℕ → Gathered → Gathered
 settled n r = settled_as n r.end r
 
-unfoldable pub finished : ℕ → End → State → Gathered
-finished n (At e) st = record { end = At e; state = st }
-finished n No st = nothing_got n
+-- an answer, with the state that is lent
+abbrev pub got_in : Option ℕ → State → Gathered
+got_in e st = record { end = e; state = st }
+
+unfoldable pub finished : ℕ → Option ℕ → State → Gathered
+finished n (Some e) st = record { end = Some e; state = st }
+finished n None st = nothing_got n
 
 unfoldable pub got_one : List ℕ → List ℕ → Context → State → One → Gathered
-got_one s p c st (one g kids e) = record { end = At e; state = visit s p c st (elem g kids nil) }
+got_one s p c st (one g kids e) = record { end = Some e; state = visit s p c st (elem g kids nil) }
 got_one s p c st none = nothing_got (length s)
 
 unfoldable pub got_held : List ℕ → List ℕ → Context → State → Held → Gathered
-got_held s p c st (held t j) = record { end = At j; state = visit s p c st t }
+got_held s p c st (held t j) = record { end = Some j; state = visit s p c st t }
 got_held s p c st bad = nothing_got (length s)

@@ -18,8 +18,8 @@ use Rattle.octets.proofs.Tests.{each_of, every_of, every-step, every-none, every
 use Rattle.octets.specs.Bytes.{pick, every, holds, byte_at, part}
 use Rattle.octets.specs.Digits.{all_digits, value, digits}
 use Rattle.parts.specs.Parts.{padded}
-use Rattle.parts.specs.Parts.{is_location, no_locations}
-use Rattle.parts.specs.declared.Locations.{Locations}
+use Rattle.parts.specs.Parts.{is_location}
+use Rattle.std.specs.Prelude.{Some, None}
 
 -- ---- n - k of them are left where k were read
 
@@ -49,21 +49,30 @@ locations-last n k s at h = let e : n - k ≡ 0 = omega arith in rw e
 
 -- ---- what a reader of them answers
 
-pub locations-refused : (n : ℕ) (s : List ℕ) (at : ℕ) → locations_form n s at ≡ false → locations_read n s at ≡ record { ok = false; list = no_locations }
-unfolding locations_read
-locations-refused n s at h = rw h
+pub picked-some : {A : Type 0} (b : Bool) (x y : A) → pick b (Some x) None ≡ Some y → (b ≡ true) × (x ≡ y)
+picked-some true x y h = (refl, cc)
+picked-some false x y h = let z : ◌≡◌ {A = ℕ} 0 1 = cc in absurd (omega arith)
 
-pub locations-taken : (n : ℕ) (s : List ℕ) (at : ℕ) → locations_form n s at ≡ true → locations_read n s at ≡ record { ok = true; list = padded (locations_of n s at) }
-unfolding locations_read
-locations-taken n s at h = rw h
+pub picked-none : {A : Type 0} (b : Bool) (x : A) → pick b (Some x) None ≡ None → b ≡ false
+picked-none true x h = let z : ◌≡◌ {A = ℕ} 0 1 = cc in absurd (omega arith)
+picked-none false x h = refl
 
-pub form-is : (n : ℕ) (s : List ℕ) (at : ℕ) → (locations_read n s at).ok ≡ locations_form n s at
-unfolding locations_read
-form-is n s at = go (locations_form n s at)
-  where
-    go : (b : Bool) → (pick {A = Locations} b (record { ok = true; list = padded (locations_of n s at) }) (record { ok = false; list = no_locations })).ok ≡ b
-    go true = refl
-    go false = refl
+module _ (n : ℕ) (s : List ℕ) (at : ℕ) where
+  pub locations-refused : locations_form n s at ≡ false → locations_read n s at ≡ None
+  unfolding locations_read
+  locations-refused h = rw h
+
+  pub locations-taken : locations_form n s at ≡ true → locations_read n s at ≡ Some (padded (locations_of n s at))
+  unfolding locations_read
+  locations-taken h = rw h
+
+  pub locations-some : (l : List ℕ) → locations_read n s at ≡ Some l → (locations_form n s at ≡ true) × (padded (locations_of n s at) ≡ l)
+  unfolding locations_read
+  locations-some l h = picked-some (locations_form n s at) (padded (locations_of n s at)) l h
+
+  pub locations-none : locations_read n s at ≡ None → locations_form n s at ≡ false
+  unfolding locations_read
+  locations-none h = picked-none (locations_form n s at) (padded (locations_of n s at)) h
 
 -- ---- one location more is put: its dash and its six digits
 

@@ -28,12 +28,11 @@ use Rattle.parts.proofs.Padded.{padded-first, padded-rest, padded-long}
 use Rattle.parts.specs.Parts.{padded}
 use Rattle.parts.specs.Originator.{originator_bytes, originator_of, is_known, known}
 use Rattle.parts.specs.Parts.{is_location, body_ok, station_ok}
-use Rattle.parts.specs.declared.Origin.{Origin}
-use Rattle.parts.specs.declared.Origin.TheVariants.{Known, Unknown}
+use Rattle.std.specs.Prelude.{Option, Some, None}
 use Rattle.parts.specs.declared.Originator.{Originator}
 use Rattle.parts.specs.declared.Originator.TheVariants.{Pep, Eas, Wxr, Civ}
 
-originator-step : (b : List ℕ) (t : Bool) (o : Originator) (x : Origin) → (t ≡ true → originator_bytes o ≡ b) → (is_known x ≡ true → originator_bytes (known x) ≡ b) → is_known (pick t (Known o) x) ≡ true → originator_bytes (known (pick t (Known o) x)) ≡ b
+originator-step : (b : List ℕ) (t : Bool) (o : Originator) (x : Option Originator) → (t ≡ true → originator_bytes o ≡ b) → (is_known x ≡ true → originator_bytes (known x) ≡ b) → is_known (pick t (Some o) x) ≡ true → originator_bytes (known (pick t (Some o) x)) ≡ b
 originator-step b true o x f g h = f refl
 originator-step b false o x f g h = g h
 
@@ -44,7 +43,7 @@ originator-forth b h =
     originator-step b (same b (originator_bytes Pep)) Pep _ (try Pep)
     (originator-step b (same b (originator_bytes Eas)) Eas _ (try Eas)
     (originator-step b (same b (originator_bytes Wxr)) Wxr _ (try Wxr)
-    (originator-step b (same b (originator_bytes Civ)) Civ Unknown (try Civ)
+    (originator-step b (same b (originator_bytes Civ)) Civ None (try Civ)
     (λ (e : false ≡ true). absurd (mathlib.Core.Bool.true≢false (sym e)))))) h
 
 -- ---- the body

@@ -28,12 +28,12 @@ use Rattle.parts.specs.Parts.{padded}
 use Rattle.parts.specs.Originator.{originator_bytes, originator_of, is_known, known}
 use Rattle.parts.specs.Parts.{event_ok, body_tests, body_ok, station_ok}
 use Rattle.parts.specs.declared.Body.{Body}
-use Rattle.parts.specs.declared.Origin.TheVariants.{Known}
+use Rattle.std.specs.Prelude.{Some}
 use Rattle.parts.specs.declared.Originator.{Originator}
 use Rattle.parts.specs.declared.Originator.TheVariants.{Pep, Eas, Wxr, Civ}
 use Rattle.parts.specs.declared.Parts.{Parts}
 
-pub originator-back : (o : Originator) → originator_of (originator_bytes o) ≡ Known o
+pub originator-back : (o : Originator) → originator_of (originator_bytes o) ≡ Some o
 unfolding originator_of originator_bytes bytes same
 originator-back Pep = refl
 originator-back Eas = refl

@@ -1,21 +1,17 @@
 -- The header through the dash after JJJHHMM, `ZCZC-ORG-EEE-PSSCCC+TTTT-JJJHHMM-`, with 1 to 31 locations, each after a dash:
 -- its bytes for given parts, which bytes are of this form, and the parts that they say.
-use Rattle.std.specs.Prelude.{ℕ, zero, suc, ◌+◌, ◌-◌, ◌*◌, ◌/◌, Bool, true, false, List, [], ◌∷◌, ◌++◌, length, take, eqb}
+use Rattle.std.specs.Prelude.{ℕ, zero, suc, ◌+◌, ◌-◌, ◌*◌, ◌/◌, Bool, true, List, [], ◌∷◌, ◌++◌, length, take, eqb}
 use Rattle.octets.specs.Bytes.{pick, every, holds, between, byte_at, part, stands}
 use Rattle.octets.specs.Text.{bytes}
 use Rattle.octets.specs.Digits.{all_digits, value, digits, in_range}
-use Rattle.octets.specs.declared.Num.{Num}
-use Rattle.octets.specs.declared.Num.TheVariants.{Value, Bad}
 use Rattle.clock.specs.Written.{tttt, jjjhhmm}
 use Rattle.parts.specs.Originator.{originator_bytes, originator_of, is_known, known}
-use Rattle.parts.specs.Parts.{event_ok, is_period, no_locations, no_body}
+use Rattle.parts.specs.Parts.{event_ok, is_period, no_body}
 use Rattle.parts.specs.Parts.{padded}
-use Rattle.parts.specs.declared.Origin.{Origin}
-use Rattle.parts.specs.declared.Origin.TheVariants.{Unknown}
-use Rattle.parts.specs.declared.Locations.{Locations}
+use Rattle.std.specs.Prelude.{Option, Some, None}
+use Rattle.parts.specs.declared.Originator.{Originator}
 use Rattle.parts.specs.declared.Body.{Body}
 use Rattle.header.specs.declared.Time.{Time}
-use Rattle.header.specs.declared.Time.TheVariants.{At, No}
 use Rattle.header.specs.declared.BodyRead.{BodyRead}
 
 abbrev pub dash : ℕ
@@ -51,8 +47,8 @@ head_tests s = stands (bytes "ZCZC-") s 0 ∷ is_known (originator_of (part s 5 
 unfoldable pub head_form : List ℕ → Bool
 head_form s = every holds (head_tests s)
 
-unfoldable pub head_read : List ℕ → Origin
-head_read s = pick (head_form s) (originator_of (part s 5 3)) Unknown
+unfoldable pub head_read : List ℕ → Option Originator
+head_read s = pick (head_form s) (originator_of (part s 5 3)) None
 
 -- n locations from index at, each a dash and six digits
 unfoldable pub locations_form : ℕ → List ℕ → ℕ → Bool
@@ -63,8 +59,8 @@ unfoldable pub locations_of : ℕ → List ℕ → ℕ → List ℕ
 locations_of zero s at = []
 locations_of (suc n) s at = value (part s (at + 1) 6) ∷ locations_of n s (at + 7)
 
-unfoldable pub locations_read : ℕ → List ℕ → ℕ → Locations
-locations_read n s at = pick (locations_form n s at) (record { ok = true; list = padded (locations_of n s at) }) (record { ok = false; list = no_locations })
+unfoldable pub locations_read : ℕ → List ℕ → ℕ → Option (List ℕ)
+locations_read n s at = pick (locations_form n s at) (Some (padded (locations_of n s at))) None
 
 -- `+TTTT` at the start of t: TTTT 0015, 0030, 0045, or hours 01 to 99 with minutes 00 or 30
 abbrev pub period_in : List ℕ → ℕ
@@ -76,8 +72,8 @@ period_tests t = eqb (byte_at t 0) plus ∷ in_range 0 99 (part t 1 2) ∷ in_ra
 unfoldable pub period_form : List ℕ → Bool
 period_form t = every holds (period_tests t)
 
-unfoldable pub period_read : List ℕ → Num
-period_read t = pick (period_form t) (Value (period_in t)) Bad
+unfoldable pub period_read : List ℕ → Option ℕ
+period_read t = pick (period_form t) (Some (period_in t)) None
 
 -- `-JJJHHMM-` behind it: day 001 to 366, time 0000 to 2359 with minutes to 59
 abbrev pub day_in : List ℕ → ℕ
@@ -95,8 +91,8 @@ time_form_tests t = eqb (byte_at t 5) dash ∷ in_range 1 366 (part t 6 3) ∷ i
 unfoldable pub time_form : List ℕ → Bool
 time_form t = every holds (time_form_tests t)
 
-unfoldable pub time_read : List ℕ → Time
-time_read t = pick (time_form t) (At (day_in t) (hour_in t) (minute_in t)) No
+unfoldable pub time_read : List ℕ → Option Time
+time_read t = pick (time_form t) (Some (record { day = day_in t; hour = hour_in t; minute = minute_in t })) None
 
 -- ---- the whole
 
@@ -135,6 +131,10 @@ body_of s = record {
   hour = hour_in (times_part s);
   minute = minute_in (times_part s);
 }
+
+-- the body, where the bytes are one
+unfoldable pub body_read : List ℕ → Option Body
+body_read s = pick (body_form s) (Some (body_of s)) None
 
 -- a refusal returns its number, 17, and zeros elsewhere
 abbrev pub body_refusal : BodyRead

@@ -1,5 +1,5 @@
 -- The header, `ZCZC-ORG-EEE-PSSCCC+TTTT-JJJHHMM-LLLLLLLL-`: read, and written into a lent output.
-use Rattle.std.specs.Prelude.{ℕ, ◌+◌, ◌-◌, Bool, List, [], ◌∷◌, ◌++◌, length, take, leb, eqb}
+use Rattle.std.specs.Prelude.{ℕ, ◌+◌, ◌-◌, Bool, List, [], ◌∷◌, ◌++◌, length, take, leb, eqb, Option, Some, None}
 use Rattle.std.proofs.lemmas.List.Edits.{sets}
 use Rattle.octets.specs.Bytes.{pick, every, holds, byte_at, part}
 use Rattle.parts.specs.Parts.{body_ok, station_ok, no_body, no_station}
@@ -27,6 +27,10 @@ header_form s = every holds (header_tests s)
 
 unfoldable pub parts_in : List ℕ → Parts
 parts_in s = record { body = body_of (take (station_at s) s); station = part s (station_at s) 8 }
+
+-- the parts, where the bytes are a header
+unfoldable pub parts_read : List ℕ → Option Parts
+parts_read s = pick (header_form s) (Some (parts_in s)) None
 
 -- 17: header unreadable; zeros elsewhere
 abbrev pub refusal : Read

@@ -10,7 +10,7 @@ use mathlib.Core.Bool.{Bool, true, false}
 use mathlib.Core.List.{List, map}
 use native.Mathlib.Omega.{arith}
 use borrow.Author.Tests.{ne_eqb}
-use lib.ListN.{length, take, drop, replicate, length-take}
+use lib.ListN.{length, take, replicate, length-take}
 use lib.Seq.{sets, take_all}
 use Rattle.octets.specs.Bytes.{every, between, part, same, is_capital}
 use Rattle.octets.specs.Text.{bytes}
@@ -22,7 +22,7 @@ use Rattle.values.proofs.Copies.{is_kept, low_same}
 use Rattle.parts.specs.Originator.{originator_bytes, originator_of}
 use Rattle.parts.specs.Parts.{event_tests, event_ok}
 use Rattle.parts.specs.declared.Originator.TheVariants.{Pep, Eas, Wxr, Civ}
-use Rattle.parts.specs.declared.Origin.TheVariants.{Unknown}
+use Rattle.std.specs.Prelude.{None}
 use Rattle.parts.proofs.Has.{event-capitals}
 use Rattle.fields.proofs.Buffers.{copied-back, cut}
 
@@ -45,13 +45,16 @@ pub origin-low : (v : List ℕ) → originator_of (map low v) ≡ originator_of 
 unfolding originator_of originator_bytes bytes every between
 origin-low v = rw (same_low (originator_bytes Pep) v refl, same_low (originator_bytes Eas) v refl, same_low (originator_bytes Wxr) v refl, same_low (originator_bytes Civ) v refl)
 
-pub origin-other : (v : List ℕ) → (length v ≡ 3 → ⊥) → originator_of v ≡ Unknown
+pub origin-other : (v : List ℕ) → (length v ≡ 3 → ⊥) → originator_of v ≡ None
 unfolding originator_of originator_bytes bytes
 origin-other v h = rw (same-long v (bytes "PEP") h, same-long v (bytes "EAS") h, same-long v (bytes "WXR") h, same-long v (bytes "CIV") h)
 
 module _ (v x : List ℕ) (n : ℕ) (p : x ≡ sets (replicate {A = ℕ} 4 0) 0 (map low (take 4 v))) (e : n ≡ length (take 4 v)) where
-  pub event-judged : (r : Bool) → r ≡ event_ok (take (n - 0) (drop 0 x)) → r ≡ event_ok v
-  event-judged r h = h ∙ ap event_ok (copied-back (replicate {A = ℕ} 4 0) v x 4 n refl p e) ∙ event-copied v
+  front : take n x ≡ map low (take 4 v)
+  front = let q : n ≡ n - 0 = omega arith in ap (λ (k : ℕ). take k x) q ∙ copied-back (replicate {A = ℕ} 4 0) v x 4 n refl p e
+
+  pub event-judged : (r : Bool) → r ≡ event_ok (take n x) → r ≡ event_ok v
+  event-judged r h = h ∙ ap event_ok front ∙ event-copied v
 
   three-is : n ≡ 3 → length v ≡ 3
   three-is h = let k : length (take 4 v) ≡ 3 = sym e ∙ h in let q = simp length-take at k in omega arith
@@ -61,6 +64,5 @@ module _ (v x : List ℕ) (n : ℕ) (p : x ≡ sets (replicate {A = ℕ} 4 0) 0 
 
   pub three_back : n ≡ 3 → part x 0 3 ≡ map low v
   three_back h =
-      let q : n - 0 ≡ 3 = omega arith in
       let l : length v ≡ 3 = three-is h in
-      ap (λ (k : ℕ). take k (drop 0 x)) (sym q) ∙ copied-back (replicate {A = ℕ} 4 0) v x 4 n refl p e ∙ ap (map low) (take_all 4 v (omega arith))
+      ap (λ (k : ℕ). take k x) (sym h) ∙ front ∙ ap (map low) (take_all 4 v (omega arith))

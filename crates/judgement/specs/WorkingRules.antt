@@ -1,13 +1,13 @@
 -- What a header asks: references, what the selected info says, and quiet Cancels. A leaf's value is value_at s of its place.
-use Rattle.std.specs.Prelude.{ℕ, ◌-◌, Bool, true, false, ◌&&◌, not, List, [], ◌∷◌, replicate, eqb}
+use Rattle.std.specs.Prelude.{ℕ, ◌-◌, Bool, true, false, ◌&&◌, not, List, [], ◌∷◌, eqb}
 use Rattle.octets.specs.Bytes.{pick, every, holds}
 use Rattle.clock.specs.Time.{time_of, instant_in}
 use Rattle.values.specs.Value.{value_at}
 use Rattle.parts.specs.Originator.{originator_of}
 use Rattle.parts.specs.Parts.{event_ok}
 use Rattle.parts.specs.declared.Originator.TheVariants.{Civ}
-use Rattle.parts.specs.declared.Origin.{Origin}
-use Rattle.parts.specs.declared.Origin.TheVariants.{Known}
+use Rattle.std.specs.Prelude.{Option, Some, None}
+use Rattle.parts.specs.declared.Originator.{Originator}
 use Rattle.reads.specs.WorkingLeaves.{only_of, references_leaf, expires_leaf}
 use Rattle.reads.specs.WorkingSteps.{is_nothing}
 use Rattle.reads.specs.declared.Leaf.{Leaf}
@@ -16,7 +16,6 @@ use Rattle.fields.specs.WorkingFields.{references_ok}
 use Rattle.fields.specs.declared.MsgType.{MsgType}
 use Rattle.message.specs.WorkingMessage.{info_in}
 use Rattle.message.specs.declared.Message.{Message}
-use Rattle.judgement.specs.declared.Event.{Event}
 
 -- references are judged only in Update and Cancel
 abbrev pub asks_references : MsgType → Bool
@@ -42,15 +41,12 @@ expires_in m = expires_leaf (info_in m)
 unfoldable pub event_is : List ℕ → Leaf → Bool
 event_is s l = eqb l.count 1 && event_ok (value_at s l.at)
 
-abbrev pub no_event : Event
-no_event = record { ok = false; code = replicate 3 0 }
-
-unfoldable pub event_of : List ℕ → Leaf → Event
-event_of s l = pick (event_is s l) (record { ok = true; code = value_at s l.at }) no_event
+unfoldable pub event_of : List ℕ → Leaf → Option (List ℕ)
+event_of s l = pick (event_is s l) (Some (value_at s l.at)) None
 
 -- ORG: first EAS-ORG parameter, exactly PEP, EAS, WXR or CIV; absent means CIV
-unfoldable pub origin_of : List ℕ → Leaf → Origin
-origin_of s l = pick (eqb l.count 0) (Known Civ) (originator_of (value_at s l.at))
+unfoldable pub origin_of : List ℕ → Leaf → Option Originator
+origin_of s l = pick (eqb l.count 0) (Some Civ) (originator_of (value_at s l.at))
 
 -- every geocode named SAME must be six digits, and one must be there
 unfoldable pub located : Locations → Bool

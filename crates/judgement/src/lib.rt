@@ -4,23 +4,17 @@
 ghost use Rattle.std.specs.Prelude.{◌≡◌, ◌<◌, ◌-◌};
 ghost use Rattle.octets.specs.Bytes.{every, holds};
 ghost use Rattle.clock.specs.Time.{span};
-ghost use Rattle.judgement.specs.WorkingRules.{asks_references, referenced, lacks_references, no_event, event_of, origin_of, located, seconds_to, unplaced, complete, is_cancel, quiet_of};
+ghost use Rattle.judgement.specs.WorkingRules.{asks_references, referenced, lacks_references, event_of, origin_of, located, seconds_to, unplaced, complete, is_cancel, quiet_of};
 ghost use Rattle.judgement.specs.WorkingJudged.{without, refused_before, body_with, alerted, judged_of};
 
 use fields::MsgType;
 use message::Message;
-use parts::{Body, Origin, Originator};
+use parts::{Body, Originator};
 use reads::{Leaf, Locations};
 
-// The event of a header, or that there is none.
-#[derive(Clone, Copy)]
-pub struct Event {
-    pub ok: bool,
-    pub code: [u8; 3],
-}
-
 // A message with its number and field of 4 to 14; whether it is a quiet Cancel; and, after 0 where it is not, the header through the dash after
-// JJJHHMM.
+// JJJHHMM. The numbers are the ones that a caller is answered, and each refusal has a message and the body `no_body`: `judged_of` promises both
+// for every message, and the theorems judged-number and judge-determined speak of them.
 #[derive(Clone, Copy)]
 pub struct Judged {
     pub number: u32,
@@ -36,78 +30,49 @@ pub struct Judged {
 pub fn asks_references(t: MsgType) -> bool
     ensures { result ≡ asks_references t }
 {
-    match t {
-        MsgType::Unknown => false,
-        MsgType::Alert => false,
-        MsgType::Update => true,
-        MsgType::Cancel => true,
-        MsgType::Ack => false,
-        MsgType::Error => false,
-    }
+    matches!(t, MsgType::Update | MsgType::Cancel)
 }
 
 fn has_references(s: &[u8], l: Leaf) -> bool
     ensures { result ≡ referenced s.now l }
 {
-    if !reads::is_only(l) {
-        return false;
-    }
-    fields::references_at(s, l.at)
+    reads::is_only(l) && fields::references_at(s, l.at)
 }
 
 fn lacks_references(s: &[u8], m: Message) -> bool
     ensures { result ≡ lacks_references s.now m }
 {
-    let t = m.msg_type;
-    let a = m.alert;
-    let references = a.leaf[reads::REFERENCES];
-    if !asks_references(t) {
-        return false;
-    }
-    !has_references(s, references)
+    asks_references(m.msg_type) && !has_references(s, m.alert.leaf[reads::REFERENCES])
 }
 
 // ---- what an info says for a header
 
-fn no_event() -> Event
-    ensures { result ≡ no_event }
-{
-    Event {
-        ok: false,
-        code: [0u8; 3],
-    }
-}
-
 // The event of the SAME eventCode.
-fn event_of(s: &[u8], l: Leaf) -> Event
+fn event_of(s: &[u8], l: Leaf) -> Option<[u8; 3]>
     ensures { result ≡ event_of s.now l }
 {
     if l.count != 1 {
-        return no_event();
+        return None;
     }
     let mut b = [0u8; 4];
     let n = values::copy(s, l.at, 4, &mut b, 0);
-    if !parts::event_ok(&b[0..n]) {
-        return no_event();
+    if !parts::event_ok(&b[..n]) {
+        return None;
     }
-    let code = parts::three_at(&b, 0);
-    Event {
-        ok: true,
-        code: code,
-    }
+    Some(parts::bytes_at(&b, 0))
 }
 
 // The originator of the EAS-ORG parameter.
-fn origin_of(s: &[u8], l: Leaf) -> Origin
+fn origin_of(s: &[u8], l: Leaf) -> Option<Originator>
     ensures { result ≡ origin_of s.now l }
 {
     if l.count == 0 {
-        return Origin::Known(Originator::Civ);
+        return Some(Originator::Civ);
     }
     let mut b = [0u8; 4];
     let n = values::copy(s, l.at, 4, &mut b, 0);
     if n != 3 {
-        return Origin::Unknown;
+        return None;
     }
     parts::originator_of(&b, 0)
 }
@@ -115,19 +80,13 @@ fn origin_of(s: &[u8], l: Leaf) -> Origin
 fn is_located(l: Locations) -> bool
     ensures { result ≡ located l }
 {
-    if l.bad {
-        return false;
-    }
-    l.count != 0
+    !l.bad && l.count != 0
 }
 
 fn is_unplaced(l: Locations) -> bool
     ensures { result ≡ unplaced l }
 {
-    if l.bad {
-        return false;
-    }
-    l.count == 0
+    !l.bad && l.count == 0
 }
 
 // The seconds from sent to the expires leaf; 0 where it is absent, malformed or not after sent.
@@ -137,57 +96,30 @@ fn seconds_to(s: &[u8], l: Leaf, sent: u32) -> u32
     if l.count == 0 {
         return 0;
     }
-    let end = clock::seconds(fields::time_at(s, l.at));
-    if end <= sent {
-        return 0;
-    }
-    end - sent
+    fields::time_at(s, l.at).unwrap_or(0).saturating_sub(sent)
 }
 
 // Whether there is an info, a SAME eventCode, a SAME geocode and an expires.
 fn is_complete(m: Message) -> bool
     ensures { result ≡ every holds (complete m) }
 {
-    let a = m.alert;
-    let i = a.info;
-    let kept = a.kept;
-    let events = i.events;
-    let same = events.same;
-    let locations = i.locations;
-    let expires = i.leaf[reads::EXPIRES];
-    if reads::is_nothing(kept) {
+    let info = m.alert.info;
+    if reads::is_nothing(m.alert.kept) || info.events.same.count == 0 {
         return false;
     }
-    if same.count == 0 {
-        return false;
-    }
-    if is_unplaced(locations) {
-        return false;
-    }
-    expires.count != 0
+    !is_unplaced(info.locations) && info.leaf[reads::EXPIRES].count != 0
 }
 
 fn is_cancel(t: MsgType) -> bool
     ensures { result ≡ is_cancel t }
 {
-    match t {
-        MsgType::Unknown => false,
-        MsgType::Alert => false,
-        MsgType::Update => false,
-        MsgType::Cancel => true,
-        MsgType::Ack => false,
-        MsgType::Error => false,
-    }
+    matches!(t, MsgType::Cancel)
 }
 
 fn is_quiet(m: Message) -> bool
     ensures { result ≡ quiet_of m }
 {
-    let t = m.msg_type;
-    if !is_cancel(t) {
-        return false;
-    }
-    !is_complete(m)
+    is_cancel(m.msg_type) && !is_complete(m)
 }
 
 // ---- the judgement
@@ -196,9 +128,9 @@ fn no_header(m: Message, number: u32, quiet: bool) -> Judged
     ensures { result ≡ without m number quiet }
 {
     Judged {
-        number: number,
+        number,
         field: m.field,
-        quiet: quiet,
+        quiet,
         body: parts::no_body(),
         message: m,
     }
@@ -216,12 +148,12 @@ fn body_with(o: Originator, event: [u8; 3], l: Locations, seconds: u32, sent: u3
     ensures { result ≡ body_with o event l seconds sent }
 {
     let on = clock::stamp_of(sent);
-    let list = l.list;
+    let locations = l.list;
     Body {
         originator: o,
-        event: event,
+        event,
         count: l.count,
-        locations: list,
+        locations,
         period: clock::period(seconds),
         day: on.day,
         hour: on.hour,
@@ -234,34 +166,25 @@ fn alert_of(s: &[u8], m: Message) -> Judged
     requires { m.sent < span }
     ensures { result ≡ alerted s.now m }
 {
-    let a = m.alert;
-    let i = a.info;
-    let events = i.events;
-    let parameters = i.parameters;
-    let originator = parameters.leaf[reads::EAS_ORG];
-    let locations = i.locations;
-    let expires = i.leaf[reads::EXPIRES];
-    let event = event_of(s, events.same);
-    if !event.ok {
+    let info = m.alert.info;
+    let Some(event) = event_of(s, info.events.same) else {
         return no_header(m, 11, false);
-    }
-    let o = origin_of(s, originator);
-    let Origin::Known(known) = o else {
+    };
+    let Some(originator) = origin_of(s, info.parameters.leaf[reads::EAS_ORG]) else {
         return no_header(m, 12, false);
     };
-    if !is_located(locations) {
+    if !is_located(info.locations) {
         return no_header(m, 13, false);
     }
-    let seconds = seconds_to(s, expires, m.sent);
+    let seconds = seconds_to(s, info.leaf[reads::EXPIRES], m.sent);
     if seconds == 0 {
         return no_header(m, 14, false);
     }
-    let code = event.code;
     Judged {
         number: 0,
         field: m.field,
         quiet: false,
-        body: body_with(known, code, locations, seconds, m.sent),
+        body: body_with(originator, event, info.locations, seconds, m.sent),
         message: m,
     }
 }

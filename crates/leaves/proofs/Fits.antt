@@ -16,12 +16,10 @@ use borrow.Author.Tests.{leb-false, lt-ltb, eqb-true}
 use Rattle.octets.specs.Bytes.{pick, every, between}
 use Rattle.octets.specs.Text.{bytes}
 use Rattle.octets.specs.Digits.{value, num_of}
-use Rattle.octets.specs.declared.Num.{Num}
-use Rattle.octets.specs.declared.Num.TheVariants.{Value, Bad}
+use Rattle.std.specs.Prelude.{Option, Some, None}
 use Rattle.octets.proofs.Tests.{and_right, every-none, every-step, every_rest, every_append, either_way}
 use Rattle.octets.proofs.Numbers.{num-value, value-below}
 use Rattle.clock.specs.Time.{span, instant_in}
-use Rattle.clock.specs.declared.Time.{Time}
 use Rattle.clock.proofs.Times.{instant-low}
 use Rattle.parts.specs.Parts.{is_location, is_zero}
 use Rattle.faults.specs.WorkingField.{one_on, lowest}
@@ -64,11 +62,11 @@ fold-holds P f k (e ∷ es) x h = fold-holds P f k es (f x e) (k x e h)
 
 -- ---- what one element adds
 
-six-below : (t : List ℕ) (v : ℕ) → six_digits t ≡ Value v → v < 1000000
+six-below : (t : List ℕ) (v : ℕ) → six_digits t ≡ Some v → v < 1000000
 unfolding six_digits
 six-below t v h = go (eqb (length t) 6) refl h
   where
-    go : (b : Bool) → eqb (length t) 6 ≡ b → pick b (num_of t) Bad ≡ Value v → v < 1000000
+    go : (b : Bool) → eqb (length t) 6 ≡ b → pick b (num_of t) None ≡ Some v → v < 1000000
     go true e q =
         let n = num-value t v q in
         let l : value t < 1000000 = value-below 6 t (eqb-true (length t) 6 e) n.0 in
@@ -110,9 +108,9 @@ location-fits s p x e h =
     value : Leaf
     value = leaf_in s p "value" e.holds
 
-    go : (n : Num) → six_digits (value_at s value.at) ≡ n → LocationsFit (location_of x n)
-    go (Value v) q = placed-fit x v (six-below (value_at s value.at) v q) h
-    go Bad q = record { few = h.few; long = h.long; six = h.six; zeros = h.zeros }
+    go : (n : Option ℕ) → six_digits (value_at s value.at) ≡ n → LocationsFit (location_of x n)
+    go (Some v) q = placed-fit x v (six-below (value_at s value.at) v q) h
+    go None q = record { few = h.few; long = h.long; six = h.six; zeros = h.zeros }
 
 audio-most : (s : List ℕ) (n : ℕ) → audio_of s n ≤ 3
 unfolding audio_of
@@ -194,7 +192,7 @@ audio-fits s = (audio-holds s).uri
 
 timed-in : (s : List ℕ) (l : Leaf) → instant_in (timed s l) < span
 unfolding timed
-timed-in s l = either_way (λ (t : Time). instant_in t < span) (only_of l) _ _ (λ q. instant-low (value_at s l.at)) (λ q. omega arith)
+timed-in s l = either_way (λ (t : Option ℕ). instant_in t < span) (only_of l) _ _ (λ q. instant-low (value_at s l.at)) (λ q. omega arith)
 
 pub sent-in : (s : List ℕ) → (message_says s).sent < span
 unfolding judged

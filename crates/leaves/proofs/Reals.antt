@@ -10,8 +10,7 @@ use lib.Dec.{eqb}
 use borrow.Author.Tests.{eqb-true, eq-eqb}
 use Rattle.octets.specs.Bytes.{pick}
 use Rattle.pieces.specs.Pieces.{piece_at}
-use Rattle.pieces.specs.declared.End.{End}
-use Rattle.pieces.specs.declared.End.TheVariants.{At, No}
+use Rattle.std.specs.Prelude.{Option, Some, None}
 use Rattle.pieces.specs.declared.Piece.{Piece}
 use Rattle.pieces.specs.declared.Piece.TheVariants.{Text, Note, Child, Close, Bad}
 use Rattle.pieces.proofs.Goes.{PieceGoes, piece-goes}
@@ -136,9 +135,9 @@ elem-real s (suc d) i = go (open_at s i) (open-goes s i) (items-real s (elem_at 
     Rest : Type 0
     Rest = (j : ℕ) → HeldReal s (content_at s d j)
 
-    ends : (g : Tag) (kids : Forest) → Real s g kids → AllReal s kids → (x : End) → OneReal s (sealed g kids x)
-    ends g kids x y (At e) = (x, y)
-    ends g kids x y No = tt
+    ends : (g : Tag) (kids : Forest) → Real s g kids → AllReal s kids → (x : Option ℕ) → OneReal s (sealed g kids x)
+    ends g kids x y (Some e) = (x, y)
+    ends g kids x y None = tt
 
     full : (a j : ℕ) → j ≤ length s → (h : Held) → content_at s d j ≡ h → HeldReal s h → OneReal s (closed s i a j h)
     full a j l (held kids k) e r = ends (record { from = i; name = a; body = j; shut = k }) kids (real-at s d i a j k kids l e) r (close_at s i a k)
@@ -170,18 +169,18 @@ leaf-is s g kids e q = go (declaration_at s 0) q
     kept h f k r true u = is h f k r u
     kept h f k r false u = never u
 
-    after : (h : Tag) (f : Forest) (k : ℕ) → AllReal s f → (m : End) → ended s (one h f k) m ≡ one g kids e → AllReal s kids
-    after h f k r (At j) u = kept h f k r (eqb j (length s)) u
-    after h f k r No u = never u
+    after : (h : Tag) (f : Forest) (k : ℕ) → AllReal s f → (m : Option ℕ) → ended s (one h f k) m ≡ one g kids e → AllReal s kids
+    after h f k r (Some j) u = kept h f k r (eqb j (length s)) u
+    after h f k r None u = never u
 
     root : (o : One) → OneReal s o → rooted s o ≡ one g kids e → AllReal s kids
     root (one h f k) r u = after h f k r.1 (misc_at s k) u
     root none r u = never u
 
-    behind : (m : End) → root_at s m ≡ one g kids e → AllReal s kids
-    behind (At i) u = root (elem_at s 12 i) (elem-real s 12 i) u
-    behind No u = never u
+    behind : (m : Option ℕ) → root_at s m ≡ one g kids e → AllReal s kids
+    behind (Some i) u = root (elem_at s 12 i) (elem-real s 12 i) u
+    behind None u = never u
 
-    go : (d : End) → root_at s (led s d) ≡ one g kids e → AllReal s kids
-    go (At a) u = behind (misc_at s a) u
-    go No u = never u
+    go : (d : Option ℕ) → root_at s (led s d) ≡ one g kids e → AllReal s kids
+    go (Some a) u = behind (misc_at s a) u
+    go None u = never u

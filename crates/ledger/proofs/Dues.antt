@@ -9,7 +9,7 @@ use mathlib.Core.Logic.{◌⊎◌, inl, inr, ⊎_elim, ◌↔◌}
 use mathlib.Core.List.{List, [], ◌∷◌}
 use native.Mathlib.Omega.{arith}
 use borrow.Author.Tests.{eqb-true, eq-eqb}
-use Rattle.octets.specs.declared.Order.TheVariants.{More}
+use Rattle.std.specs.declared.cmp.Ordering.TheVariants.{Greater}
 use Rattle.octets.specs.Bytes.{pick}
 use Rattle.octets.specs.Order.{cmp}
 use Rattle.octets.proofs.Orders.{first_above}
@@ -21,7 +21,7 @@ use Rattle.ledger.specs.WorkingBoard.{unwithdrawn, live, headers, due, Due}
 use Rattle.ledger.proofs.Sorts.{in_insert, in-insert_all, insert_all-sorted, has-not}
 
 -- a record of a later kind comes after
-pub later-kind : (a r : List ℕ) → kind r < kind a → cmp a r ≡ More
+pub later-kind : (a r : List ℕ) → kind r < kind a → cmp a r ≡ Greater
 later-kind [] r h = absurd (omega arith)
 later-kind (x ∷ a) [] h = refl
 later-kind (x ∷ a) (y ∷ r) h = first_above x y (cmp a r) h

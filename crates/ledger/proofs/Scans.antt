@@ -10,8 +10,8 @@ use mathlib.Core.List.{List, [], ◌∷◌, ◌++◌}
 use native.Mathlib.Nat.{le_trans}
 use native.Mathlib.Omega.{arith}
 use lib.ListN.{length, get_or}
-use Rattle.octets.specs.declared.Order.{Order}
-use Rattle.octets.specs.declared.Order.TheVariants.{Less, Same, More}
+use Rattle.std.specs.declared.cmp.Ordering.{Ordering}
+use Rattle.std.specs.declared.cmp.Ordering.TheVariants.{Less, Equal, Greater}
 use Rattle.octets.specs.Bytes.{pick, same}
 use Rattle.octets.specs.Order.{cmp, choose}
 use Rattle.octets.proofs.Orders.{cmp-refl, cmp-trans, less-same}
@@ -42,16 +42,16 @@ carries-is p h r = (
   λ w. every_of _ (w.0, (subst (λ (x : List ℕ). same (carried r) x ≡ true) w.1 (same_refl (carried r)), tt)),
 )
 
-less-true : (o : Order) → choose o true false false ≡ true → o ≡ Less
+less-true : (o : Ordering) → choose o true false false ≡ true → o ≡ Less
 less-true Less e = refl
-less-true Same e = never e
-less-true More e = never e
+less-true Equal e = never e
+less-true Greater e = never e
 
 pub after_is : (b : List (List ℕ)) (h r : List ℕ) → (after b h r ≡ true) ↔ ((live b r ≡ true) × (cmp h (carried r) ≡ Less))
 unfolding after
 after_is b h r = (
   λ e. let w = each_of _ e in (w.0, less-true (cmp h (carried r)) w.1.0),
-  λ w. every_of _ (w.0, (ap (λ (o : Order). choose o true false false) w.1, tt)),
+  λ w. every_of _ (w.0, (ap (λ (o : Ordering). choose o true false false) w.1, tt)),
 )
 
 -- ---- the members
@@ -184,8 +184,8 @@ module _ (none : ℕ) (p : List ℕ → Bool) (l : List (List ℕ)) (r : List �
       ∙ index-new p (carried r) l r (λ m. subst (In (carried r)) f ((in-insert_all (carried r) (headers p l) []).1 (inl m))) ((carries-is p (carried r) r).1 (e, refl)))
 
   module _ (e : p r ≡ true) (h : List ℕ) (hs : List (List ℕ)) (f : ordered p l ≡ h ∷ hs) where
-    with_it : (o : Order) → cmp (carried r) h ≡ o → ordered p (l ++ (r ∷ [])) ≡ choose o (carried r ∷ h ∷ hs) (h ∷ hs) (h ∷ insert (carried r) hs)
-    with_it o g = ordered-snoc p l r true e ∙ ap (insert (carried r)) f ∙ ap (λ (x : Order). choose x (carried r ∷ h ∷ hs) (h ∷ hs) (h ∷ insert (carried r) hs)) g
+    with_it : (o : Ordering) → cmp (carried r) h ≡ o → ordered p (l ++ (r ∷ [])) ≡ choose o (carried r ∷ h ∷ hs) (h ∷ hs) (h ∷ insert (carried r) hs)
+    with_it o g = ordered-snoc p l r true e ∙ ap (insert (carried r)) f ∙ ap (λ (x : Ordering). choose x (carried r ∷ h ∷ hs) (h ∷ hs) (h ∷ insert (carried r) hs)) g
 
     old : index_of p h (l ++ (r ∷ [])) ≡ best_of none p l
     unfolding best_of
@@ -203,11 +203,11 @@ module _ (none : ℕ) (p : List ℕ → Bool) (l : List (List ℕ)) (r : List �
             ⊎_elim (λ q. less-same (g ∙ ap (λ (x : List ℕ). cmp x h) q ∙ cmp-refl h)) (λ k. not-before-self h (cmp-trans h (carried r) h (s.0 (carried r) k) (sym g)))
             (subst (In (carried r)) f ((in-insert_all (carried r) (headers p l) []).1 (inl m)))
 
-    pub best-equal : Same ≡ cmp (carried r) h → best_of none p l ≡ best_of none p (l ++ (r ∷ []))
-    best-equal g = sym (unfold best_of in (ap (first_of none p (l ++ (r ∷ []))) (with_it Same (sym g))) ∙ old)
+    pub best-equal : Equal ≡ cmp (carried r) h → best_of none p l ≡ best_of none p (l ++ (r ∷ []))
+    best-equal g = sym (unfold best_of in (ap (first_of none p (l ++ (r ∷ []))) (with_it Equal (sym g))) ∙ old)
 
-    pub best-more : More ≡ cmp (carried r) h → best_of none p l ≡ best_of none p (l ++ (r ∷ []))
-    best-more g = sym (unfold best_of in (ap (first_of none p (l ++ (r ∷ []))) (with_it More (sym g))) ∙ old)
+    pub best-more : Greater ≡ cmp (carried r) h → best_of none p l ≡ best_of none p (l ++ (r ∷ []))
+    best-more g = sym (unfold best_of in (ap (first_of none p (l ++ (r ∷ []))) (with_it Greater (sym g))) ∙ old)
 
 -- ---- from one due header to the next
 

@@ -12,8 +12,8 @@ use mathlib.Core.List.{List, [], ◌∷◌, ◌++◌, map}
 use native.Mathlib.Nat.{le_refl, le_trans, le_of_suc-le-suc}
 use native.Mathlib.Omega.{arith}
 use lib.ListN.{length, get_or}
-use Rattle.octets.specs.declared.Order.{Order}
-use Rattle.octets.specs.declared.Order.TheVariants.{Less, Same, More}
+use Rattle.std.specs.declared.cmp.Ordering.{Ordering}
+use Rattle.std.specs.declared.cmp.Ordering.TheVariants.{Less, Equal, Greater}
 use Rattle.octets.specs.Bytes.{every}
 use Rattle.octets.specs.Order.{cmp, choose}
 use Rattle.octets.proofs.Orders.{cmp-refl, cmp-same, cmp-flip, cmp-trans, less-same, more_same, flip}
@@ -29,10 +29,10 @@ pub in_insert : (y a : List ℕ) (l : List (List ℕ)) → In y (insert a l) ↔
 in_insert y a [] = (λ m. m, λ m. m)
 in_insert y a (x ∷ xs) = go (cmp a x) refl (in_insert y a xs)
   where
-    go : (o : Order) → cmp a x ≡ o → (In y (insert a xs) ↔ ((y ≡ a) ⊎ In y xs)) → In y (choose o (a ∷ x ∷ xs) (x ∷ xs) (x ∷ insert a xs)) ↔ ((y ≡ a) ⊎ ((y ≡ x) ⊎ In y xs))
+    go : (o : Ordering) → cmp a x ≡ o → (In y (insert a xs) ↔ ((y ≡ a) ⊎ In y xs)) → In y (choose o (a ∷ x ∷ xs) (x ∷ xs) (x ∷ insert a xs)) ↔ ((y ≡ a) ⊎ ((y ≡ x) ⊎ In y xs))
     go Less e ih = (λ m. m, λ m. m)
-    go Same e ih = (inr, ⊎_elim (λ p. inl (p ∙ cmp-same a x e)) (λ m. m))
-    go More e ih = (
+    go Equal e ih = (inr, ⊎_elim (λ p. inl (p ∙ cmp-same a x e)) (λ m. m))
+    go Greater e ih = (
       ⊎_elim (λ p. inr (inl p)) (λ m. ⊎_elim inl (λ k. inr (inr k)) (ih.0 m)),
       ⊎_elim (λ p. inr (ih.1 (inl p))) (⊎_elim inl (λ k. inr (ih.1 (inr k)))),
     )
@@ -46,10 +46,10 @@ pub insert-sorted : (a : List ℕ) (l : List (List ℕ)) → Sorted l → Sorted
 insert-sorted a [] s = (λ y m. absurd m, tt)
 insert-sorted a (x ∷ xs) s = go (cmp a x) refl (insert-sorted a xs s.1)
   where
-    go : (o : Order) → cmp a x ≡ o → Sorted (insert a xs) → Sorted (choose o (a ∷ x ∷ xs) (x ∷ xs) (x ∷ insert a xs))
+    go : (o : Ordering) → cmp a x ≡ o → Sorted (insert a xs) → Sorted (choose o (a ∷ x ∷ xs) (x ∷ xs) (x ∷ insert a xs))
     go Less e ih = (λ y. ⊎_elim (λ p. subst (λ (z : List ℕ). cmp a z ≡ Less) (sym p) e) (λ m. cmp-trans a x y e (s.0 y m)), s)
-    go Same e ih = s
-    go More e ih = (λ y m. ⊎_elim (λ p. subst (λ (z : List ℕ). cmp x z ≡ Less) (sym p) (cmp-flip a x ∙ ap flip e)) (λ k. s.0 y k) ((in_insert y a xs).0 m), ih)
+    go Equal e ih = s
+    go Greater e ih = (λ y m. ⊎_elim (λ p. subst (λ (z : List ℕ). cmp x z ≡ Less) (sym p) (cmp-flip a x ∙ ap flip e)) (λ k. s.0 y k) ((in_insert y a xs).0 m), ih)
 
 pub insert_all-sorted : (rs l : List (List ℕ)) → Sorted l → Sorted (insert_all rs l)
 insert_all-sorted [] l s = s
@@ -82,17 +82,17 @@ sorted_ext (x ∷ xs) (y ∷ ys) s t f g = ap₂ ◌∷◌ head (sorted_ext xs y
     tailg z m = ⊎_elim (λ p. not-before-self y (subst (λ (w : List ℕ). cmp y w ≡ Less) (p ∙ head) (t.0 z m))) (λ k. k) (g z (inr m))
 
 -- what stands before the place of an insertion stays where it is
-pub insert-behind : (a : List ℕ) (l : List (List ℕ)) (i : ℕ) → Sorted l → i < length l → cmp a (get_or l i []) ≡ More → get_or (insert a l) i [] ≡ get_or l i []
+pub insert-behind : (a : List ℕ) (l : List (List ℕ)) (i : ℕ) → Sorted l → i < length l → cmp a (get_or l i []) ≡ Greater → get_or (insert a l) i [] ≡ get_or l i []
 insert-behind a [] i s h e = absurd (omega arith)
-insert-behind a (x ∷ xs) zero s h e = ap (λ (o : Order). get_or (choose o (a ∷ x ∷ xs) (x ∷ xs) (x ∷ insert a xs)) zero []) e
+insert-behind a (x ∷ xs) zero s h e = ap (λ (o : Ordering). get_or (choose o (a ∷ x ∷ xs) (x ∷ xs) (x ∷ insert a xs)) zero []) e
 insert-behind a (x ∷ xs) (suc i) s h e =
-    ap (λ (o : Order). get_or (choose o (a ∷ x ∷ xs) (x ∷ xs) (x ∷ insert a xs)) (suc i) []) behind
+    ap (λ (o : Ordering). get_or (choose o (a ∷ x ∷ xs) (x ∷ xs) (x ∷ insert a xs)) (suc i) []) behind
     ∙ insert-behind a xs i s.1 (le_of_suc-le-suc h) e
   where
     before : cmp x a ≡ Less
     before = cmp-trans x (get_or xs i []) a (s.0 (get_or xs i []) (in-get xs i (le_of_suc-le-suc h))) (cmp-flip a (get_or xs i []) ∙ ap flip e)
 
-    behind : cmp a x ≡ More
+    behind : cmp a x ≡ Greater
     behind = cmp-flip x a ∙ ap flip before
 
 -- ---- how an insertion counts
@@ -104,20 +104,20 @@ pub insert-new : (a : List ℕ) (l : List (List ℕ)) → (In a l → ⊥) → l
 insert-new a [] n = refl
 insert-new a (x ∷ xs) n = go (cmp a x) refl (insert-new a xs (λ m. n (inr m)))
   where
-    go : (o : Order) → cmp a x ≡ o → length (insert a xs) ≡ suc (length xs) → length (choose o (a ∷ x ∷ xs) (x ∷ xs) (x ∷ insert a xs)) ≡ suc (suc (length xs))
+    go : (o : Ordering) → cmp a x ≡ o → length (insert a xs) ≡ suc (length xs) → length (choose o (a ∷ x ∷ xs) (x ∷ xs) (x ∷ insert a xs)) ≡ suc (suc (length xs))
     go Less e ih = refl
-    go Same e ih = absurd (n (inl (cmp-same a x e)))
-    go More e ih = ap suc ih
+    go Equal e ih = absurd (n (inl (cmp-same a x e)))
+    go Greater e ih = ap suc ih
 
 pub insert-length : (a : List ℕ) (l : List (List ℕ)) → (length l ≤ length (insert a l)) × (length (insert a l) ≤ suc (length l))
 insert-length a [] = (omega arith, omega arith)
 insert-length a (x ∷ xs) = go (cmp a x) (insert-length a xs)
   where
-    go : (o : Order) → (length xs ≤ length (insert a xs)) × (length (insert a xs) ≤ suc (length xs))
+    go : (o : Ordering) → (length xs ≤ length (insert a xs)) × (length (insert a xs) ≤ suc (length xs))
         → (suc (length xs) ≤ length (choose o (a ∷ x ∷ xs) (x ∷ xs) (x ∷ insert a xs))) × (length (choose o (a ∷ x ∷ xs) (x ∷ xs) (x ∷ insert a xs)) ≤ suc (suc (length xs)))
     go Less ih = (omega arith, omega arith)
-    go Same ih = (omega arith, omega arith)
-    go More ih = (omega arith, omega arith)
+    go Equal ih = (omega arith, omega arith)
+    go Greater ih = (omega arith, omega arith)
 
 pub insert_all-grows : (rs l : List (List ℕ)) → length l ≤ length (insert_all rs l)
 insert_all-grows [] l = le_refl (length l)
@@ -133,10 +133,10 @@ pub has_in : (a : List ℕ) (l : List (List ℕ)) → (has a l ≡ true) ↔ In 
 has_in a [] = (λ e. absurd (let z : ◌≡◌ {A = ℕ} 0 1 = cc in omega arith), absurd)
 has_in a (x ∷ xs) = go (cmp a x) refl (has_in a xs)
   where
-    go : (o : Order) → cmp a x ≡ o → ((has a xs ≡ true) ↔ In a xs) → (choose o (has a xs) true (has a xs) ≡ true) ↔ ((a ≡ x) ⊎ In a xs)
+    go : (o : Ordering) → cmp a x ≡ o → ((has a xs ≡ true) ↔ In a xs) → (choose o (has a xs) true (has a xs) ≡ true) ↔ ((a ≡ x) ⊎ In a xs)
     go Less e f = (λ t. inr (f.0 t), ⊎_elim (λ p. less-same (sym e ∙ ap (cmp a) (sym p) ∙ cmp-refl a)) f.1)
-    go Same e f = (λ t. inl (cmp-same a x e), λ m. refl)
-    go More e f = (λ t. inr (f.0 t), ⊎_elim (λ p. more_same (sym e ∙ ap (cmp a) (sym p) ∙ cmp-refl a)) f.1)
+    go Equal e f = (λ t. inl (cmp-same a x e), λ m. refl)
+    go Greater e f = (λ t. inr (f.0 t), ⊎_elim (λ p. more_same (sym e ∙ ap (cmp a) (sym p) ∙ cmp-refl a)) f.1)
 
 pub has-not : (a : List ℕ) (l : List (List ℕ)) → (not (has a l) ≡ true) ↔ (In a l → ⊥)
 has-not a l = go (has a l) (has_in a l)
@@ -153,15 +153,15 @@ ascending-sorted (x ∷ (y ∷ l)) e = go (cmp x y) refl e (ascending-sorted (y 
     before : cmp x y ≡ Less → Sorted (y ∷ l) → Before x (y ∷ l)
     before c s z = ⊎_elim (λ p. subst (λ (w : List ℕ). cmp x w ≡ Less) (sym p) c) (λ m. cmp-trans x y z c (s.0 z m))
 
-    go : (o : Order) → cmp x y ≡ o → choose o (ascending (y ∷ l)) false false ≡ true → (ascending (y ∷ l) ≡ true → Sorted (y ∷ l)) → Sorted (x ∷ (y ∷ l))
+    go : (o : Ordering) → cmp x y ≡ o → choose o (ascending (y ∷ l)) false false ≡ true → (ascending (y ∷ l) ≡ true → Sorted (y ∷ l)) → Sorted (x ∷ (y ∷ l))
     go Less c t ih = (before c (ih t), ih t)
-    go Same c t ih = absurd (let z : ◌≡◌ {A = ℕ} 0 1 = cc in omega arith)
-    go More c t ih = absurd (let z : ◌≡◌ {A = ℕ} 0 1 = cc in omega arith)
+    go Equal c t ih = absurd (let z : ◌≡◌ {A = ℕ} 0 1 = cc in omega arith)
+    go Greater c t ih = absurd (let z : ◌≡◌ {A = ℕ} 0 1 = cc in omega arith)
 
 pub sorted-ascending : (l : List (List ℕ)) → Sorted l → ascending l ≡ true
 sorted-ascending [] s = refl
 sorted-ascending (x ∷ []) s = refl
-sorted-ascending (x ∷ (y ∷ l)) s = ap (λ (o : Order). choose o (ascending (y ∷ l)) false false) (s.0 y (inl refl)) ∙ sorted-ascending (y ∷ l) s.1
+sorted-ascending (x ∷ (y ∷ l)) s = ap (λ (o : Ordering). choose o (ascending (y ∷ l)) false false) (s.0 y (inl refl)) ∙ sorted-ascending (y ∷ l) s.1
 
 -- ---- members
 

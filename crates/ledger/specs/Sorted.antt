@@ -1,6 +1,6 @@
 -- Strictly ascending lists of runs of bytes, in byte order.
 use Rattle.std.specs.Prelude.{ℕ, ◌≡◌, ◌⊎◌, Bool, true, false, List, [], ◌∷◌}
-use Rattle.octets.specs.declared.Order.TheVariants.{Less}
+use Rattle.std.specs.declared.cmp.Ordering.TheVariants.{Less}
 use Rattle.octets.specs.Order.{cmp, choose}
 
 -- a is one of l

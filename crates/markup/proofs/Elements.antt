@@ -4,7 +4,7 @@
 use Prim.Native.Nat.{ℕ, suc}
 use mathlib.Core.Path.{◌≡◌}
 use mathlib.Core.List.{List}
-use Rattle.pieces.specs.declared.End.TheVariants.{At, No}
+use Rattle.std.specs.Prelude.{Some, None}
 use Rattle.tags.specs.Tags.{open_at, close_at}
 use Rattle.tags.specs.declared.Open.TheVariants.{Full, Empty, Shut}
 use Rattle.markup.specs.Tree.{Forest, nil, one, none, held, bad, sealed, closed, opened, elem_at, content_at}
@@ -27,10 +27,10 @@ module _ (s : List ℕ) (d b i : ℕ) (up : d ≡ suc b) where
     unfolding elem_at opened closed
     elem-bad u = rw (up, e, u)
 
-    pub elem-open : (kids : Forest) (k : ℕ) → content_at s b j ≡ held kids k → close_at s i a k ≡ No → elem_at s d i ≡ none
+    pub elem-open : (kids : Forest) (k : ℕ) → content_at s b j ≡ held kids k → close_at s i a k ≡ None → elem_at s d i ≡ none
     unfolding elem_at opened closed sealed
     elem-open kids k u z = rw (up, e, u, z)
 
-    pub elem-full : (kids : Forest) (k x : ℕ) → content_at s b j ≡ held kids k → close_at s i a k ≡ At x → elem_at s d i ≡ one (record { from = i; name = a; body = j; shut = k }) kids x
+    pub elem-full : (kids : Forest) (k x : ℕ) → content_at s b j ≡ held kids k → close_at s i a k ≡ Some x → elem_at s d i ≡ one (record { from = i; name = a; body = j; shut = k }) kids x
     unfolding elem_at opened closed sealed
     elem-full kids k x u z = rw (up, e, u, z)

@@ -15,8 +15,7 @@ use Rattle.octets.proofs.Sames.{stands-in}
 use Rattle.octets.proofs.Scans.{by-ge}
 use Rattle.characters.specs.Utf8.{coded_width}
 use Rattle.pieces.specs.Pieces.{note_at, piece_at}
-use Rattle.pieces.specs.declared.End.{End}
-use Rattle.pieces.specs.declared.End.TheVariants.{At, No}
+use Rattle.std.specs.Prelude.{Option, Some, None}
 use Rattle.pieces.specs.declared.Step.TheVariants.{Go, Stop}
 use Rattle.pieces.specs.declared.Piece.{Piece}
 use Rattle.pieces.specs.declared.Piece.TheVariants.{Text, Note, Child, Close, Bad}
@@ -70,9 +69,9 @@ unfolding elem_at sealed closed opened
 elem-goes s zero i = tt
 elem-goes s (suc d) i = go (open_at s i) (open-goes s i) (items-goes (elem_at s d) s (elem-goes s d) (suc (length s)))
   where
-    seal : (x : Tag) (kids : Forest) (j : ℕ) → i < j → (e : End) → PastGoes s j e → OneGoes s i (sealed x kids e)
-    seal x kids j l (At k) g = let h = g.on in record { on = omega arith; in-it = g.in-it }
-    seal x kids j l No g = tt
+    seal : (x : Tag) (kids : Forest) (j : ℕ) → i < j → (e : Option ℕ) → PastGoes s j e → OneGoes s i (sealed x kids e)
+    seal x kids j l (Some k) g = let h = g.on in record { on = omega arith; in-it = g.in-it }
+    seal x kids j l None g = tt
 
     shut : (a j : ℕ) (h : Held) → i < j → HeldGoes s j h → OneGoes s i (closed s i a j h)
     shut a j (held kids k) l g = let x = g.0 in seal (record { from = i; name = a; body = j; shut = k }) kids k (omega arith) (close_at s i a k) (close-tag-goes s i a k)
@@ -95,7 +94,7 @@ decl-goes s i l = go (stands (60 ∷ 63 ∷ 120 ∷ 109 ∷ 108 ∷ []) s i) (is
     e : ℕ
     e = scan_by (coded_width s) (in_declaration s) (length s) (i + 6)
 
-    go : (a b c : Bool) → stands (63 ∷ 62 ∷ []) s e ≡ c → EndGoes s i (pick a (pick b (pick c (At (e + 2)) No) No) (At i))
+    go : (a b c : Bool) → stands (63 ∷ 62 ∷ []) s e ≡ c → EndGoes s i (pick a (pick b (pick c (Some (e + 2)) None) None) (Some i))
     go true true true q = let h = by-ge (coded_width s) (in_declaration s) (length s) (i + 6) in (omega arith, stands-in (63 ∷ 62 ∷ []) s e q (lit< tt))
     go true true false q = tt
     go true false c q = tt
@@ -105,14 +104,25 @@ pub step-goes : (s : List ℕ) (i : ℕ) → i ≤ length s → StepGoes s i (mi
 unfolding misc_step go_on
 step-goes s i l = go (is_space (byte_at s i)) refl (stands (bytes "<!--") s i)
   where
-    pass : (x : End) → PastGoes s i x → StepGoes s i (go_on x)
-    pass (At j) g = g
-    pass No g = tt
+    pass : (x : Option ℕ) → PastGoes s i x → StepGoes s i (go_on x)
+    pass (Some j) g = g
+    pass None g = tt
 
     go : (a : Bool) → is_space (byte_at s i) ≡ a → (b : Bool) → StepGoes s i (pick a (Go (i + 1)) (pick b (go_on (note_at s i)) (Stop i)))
     go true p b = let h = space-in s i p in record { on = omega arith; in-it = omega arith }
     go false p true = pass (note_at s i) (note-goes s i)
     go false p false = (omega arith, l)
+
+-- a step over white space or a comment goes forward from any place on, past the end too
+pub misc-forward : (s : List ℕ) (i j : ℕ) → Go j ≡ misc_step s i → (i < j) × (j ≤ length s)
+unfolding misc_step go_on
+misc-forward s i j = go (is_space (byte_at s i)) refl (stands (bytes "<!--") s i) (note_at s i) (note-goes s i)
+  where
+    go : (a : Bool) → is_space (byte_at s i) ≡ a → (b : Bool) (x : Option ℕ) → PastGoes s i x → Go j ≡ pick a (Go (i + 1)) (pick b (go_on x) (Stop i)) → (i < j) × (j ≤ length s)
+    go true p b x g e = let h = space-in s i p in let q : j ≡ i + 1 = cc in (omega arith, omega arith)
+    go false p true (Some k) g e = let h = g.on in let l = g.in-it in let q : j ≡ k = cc in (omega arith, omega arith)
+    go false p true None g e = cc
+    go false p false x g e = cc
 
 pub misc-goes : (s : List ℕ) (i : ℕ) → i ≤ length s → EndGoes s i (misc_at s i)
 unfolding misc_at

@@ -2,5 +2,4 @@ pub mod Goes
 pub mod Reading
 pub mod Elements
 pub mod Declarations
-pub mod Miscs
 pub mod Figures

@@ -4,8 +4,7 @@
 -- Each piece takes at least a byte, so as many turns as the message has bytes, and one for the end tag, are enough.
 use Rattle.std.specs.Prelude.{ℕ, zero, suc, List, length}
 use Rattle.pieces.specs.Pieces.{piece_at}
-use Rattle.pieces.specs.declared.End.{End}
-use Rattle.pieces.specs.declared.End.TheVariants.{At, No}
+use Rattle.std.specs.Prelude.{Option, Some, None}
 use Rattle.pieces.specs.declared.Piece.{Piece}
 use Rattle.pieces.specs.declared.Piece.TheVariants.{Text, Note, Child, Close, Bad}
 use Rattle.tags.specs.Tags.{open_at, close_at}
@@ -59,9 +58,9 @@ items el s zero i = bad
 items el s (suc n) i = piece_then el i (piece_at s i) (items el s n)
 
 -- the end tag, if it stands there
-unfoldable pub sealed : Tag → Forest → End → One
-sealed g kids (At e) = one g kids e
-sealed g kids No = none
+unfoldable pub sealed : Tag → Forest → Option ℕ → One
+sealed g kids (Some e) = one g kids e
+sealed g kids None = none
 
 -- what is held, and the end tag that repeats the name
 unfoldable pub closed : List ℕ → ℕ → ℕ → ℕ → Held → One

@@ -13,8 +13,7 @@ use Rattle.octets.proofs.Scans.{scan-ge}
 use Rattle.pieces.proofs.Goes.{name-goes}
 use Rattle.pieces.specs.Walk.{walk_at}
 use Rattle.pieces.specs.Pieces.{name_at}
-use Rattle.pieces.specs.declared.End.{End}
-use Rattle.pieces.specs.declared.End.TheVariants.{At, No}
+use Rattle.std.specs.Prelude.{Option, Some, None}
 use Rattle.pieces.proofs.Words.{differ, at-is}
 use Rattle.tags.specs.Tags.{take_at, shut_at, tail_at, tailed, open_at, close_at}
 use Rattle.tags.specs.declared.Open.{Open}
@@ -24,6 +23,7 @@ use Rattle.markup.specs.Document.{misc_at, ended, rooted}
 use Rattle.reads.specs.WorkingLeaves.{nothing_read}
 use Rattle.reads.specs.Names.{inside}
 use Rattle.reads.specs.declared.State.{State}
+use Rattle.reads.specs.declared.Context.{Context}
 use Rattle.gather.specs.WorkingVisit.{touch_in, left, visit, got_one}
 use Rattle.gather.specs.WorkingRead.{alert_of}
 use Rattle.gather.specs.declared.Gathered.{Gathered}
@@ -38,33 +38,38 @@ root-gathers s p g kids = ap (λ (x : State). x.alert) (gathers s p kids)
 
 -- ---- what the pass answers
 
+-- the pass, whose context is the root's
+pub in-context : (s p : List ℕ) (ok : Bool) (o : One) (r : Gathered) (k : Context) → r ≡ got_one s p k (nothing_read (length s)) o → k ≡ root_context ok
+    → r ≡ got_one s p (root_context ok) (nothing_read (length s)) o
+in-context s p ok o r k e h = e ∙ ap (λ (c : Context). got_one s p c (nothing_read (length s)) o) h
+
 module _ (s p : List ℕ) (ok : Bool) (o : One) (r : Gathered) (got : r ≡ got_one s p (root_context ok) (nothing_read (length s)) o) where
-  end_is : (e : End) → r.end ≡ e → (got_one s p (root_context ok) (nothing_read (length s)) o).end ≡ e
+  end_is : (e : Option ℕ) → r.end ≡ e → (got_one s p (root_context ok) (nothing_read (length s)) o).end ≡ e
   end_is e q = ap (λ (x : Gathered). x.end) (sym got) ∙ q
 
-  pub pass-none : r.end ≡ No → refused_as (length s) 5 ≡ judged_root s p ok (rooted s o)
+  pub pass-none : r.end ≡ None → refused_as (length s) 5 ≡ judged_root s p ok (rooted s o)
   unfolding got_one judged_root rooted
-  pass-none q = go o (end_is No q)
+  pass-none q = go o (end_is None q)
     where
-      go : (o : One) → (got_one s p (root_context ok) (nothing_read (length s)) o).end ≡ No → refused_as (length s) 5 ≡ judged_root s p ok (rooted s o)
+      go : (o : One) → (got_one s p (root_context ok) (nothing_read (length s)) o).end ≡ None → refused_as (length s) 5 ≡ judged_root s p ok (rooted s o)
       go (one g kids k) e = absurd (differ (sym e))
       go none e = refl
 
-  module _ (j : ℕ) (q : r.end ≡ At j) where
+  module _ (j : ℕ) (q : r.end ≡ Some j) where
     -- the root is one that ends at j
     by-root : {A : Type 0} → ((g : Tag) (kids : Forest) → o ≡ one g kids j → A) → A
     unfolding got_one
-    by-root {A} f = go o refl (end_is (At j) q)
+    by-root {A} f = go o refl (end_is (Some j) q)
       where
-        go : (x : One) → o ≡ x → (got_one s p (root_context ok) (nothing_read (length s)) x).end ≡ At j → A
+        go : (x : One) → o ≡ x → (got_one s p (root_context ok) (nothing_read (length s)) x).end ≡ Some j → A
         go (one g kids k) u e = f g kids (u ∙ ap (one g kids) (at-is e))
         go none u e = absurd (differ e)
 
-    pub pass-unended : misc_at s j ≡ No → refused_as (length s) 5 ≡ judged_root s p ok (rooted s o)
+    pub pass-unended : misc_at s j ≡ None → refused_as (length s) 5 ≡ judged_root s p ok (rooted s o)
     unfolding judged_root rooted ended
     pass-unended m = by-root (λ g kids u. rw (u, m))
 
-    module _ (k : ℕ) (m : misc_at s j ≡ At k) where
+    module _ (k : ℕ) (m : misc_at s j ≡ Some k) where
       pub pass-more : (k ≡ length s → ⊥) → refused_as (length s) 5 ≡ judged_root s p ok (rooted s o)
       unfolding judged_root rooted ended
       pass-more h = by-root (λ g kids u. rw (u, m, ne_eqb k (length s) h))
@@ -87,7 +92,7 @@ NameOf a (Full b j) = b ≡ a
 NameOf a (Empty b j) = b ≡ a
 NameOf a Shut = Unit {0}
 
-open-named : (s : List ℕ) (i a : ℕ) → name_at s (i + 1) ≡ At a → NameOf a (open_at s i)
+open-named : (s : List ℕ) (i a : ℕ) → name_at s (i + 1) ≡ Some a → NameOf a (open_at s i)
 unfolding open_at tailed tail_at shut_at
 open-named s i a e = rw e (go (eqb (byte_at s i) 60) (walk_at (take_at s a) s a))
   where
@@ -96,9 +101,9 @@ open-named s i a e = rw e (go (eqb (byte_at s i) 60) (walk_at (take_at s a) s a)
     shut false true j = refl
     shut false false j = tt
 
-    go : (b : Bool) (x : End) → NameOf a (pick b (shut_at s a x) Shut)
-    go true (At j) = shut (eqb (byte_at s j) 62) (stands (bytes "/>") s j) j
-    go true No = tt
+    go : (b : Bool) (x : Option ℕ) → NameOf a (pick b (shut_at s a x) Shut)
+    go true (Some j) = shut (eqb (byte_at s j) 62) (stands (bytes "/>") s j) j
+    go true None = tt
     go false x = tt
 
 -- an element's places, by its start tag
@@ -116,9 +121,9 @@ tag_is s i a j g kids inner o n u = go o n u
     tagged : (h : Tag) (f : Forest) (k : ℕ) → h.from ≡ i → h.name ≡ a → one h f k ≡ one g kids j → Tagged i a g
     tagged h f k x y q = let e : h ≡ g = cc in record { from = ap (λ (t : Tag). t.from) (sym e) ∙ x; name = ap (λ (t : Tag). t.name) (sym e) ∙ y }
 
-    ends : (h : Tag) (f : Forest) → h.from ≡ i → h.name ≡ a → (x : End) → sealed h f x ≡ one g kids j → Tagged i a g
-    ends h f x y (At k) q = tagged h f k x y q
-    ends h f x y No q = none-not q
+    ends : (h : Tag) (f : Forest) → h.from ≡ i → h.name ≡ a → (x : Option ℕ) → sealed h f x ≡ one g kids j → Tagged i a g
+    ends h f x y (Some k) q = tagged h f k x y q
+    ends h f x y None q = none-not q
 
     full : (b k : ℕ) → b ≡ a → (h : Held) → closed s i b k h ≡ one g kids j → Tagged i a g
     full b k e (held f x) q = ends (record { from = i; name = b; body = k; shut = x }) f refl e (close_at s i b x) q
@@ -131,7 +136,7 @@ tag_is s i a j g kids inner o n u = go o n u
 
 module _ (s : List ℕ) (i : ℕ) where
   -- no name, no root
-  pub root-unnamed : name_at s (i + 1) ≡ No → refused_as (length s) 5 ≡ of_root s (rooted s (elem_at s 12 i))
+  pub root-unnamed : name_at s (i + 1) ≡ None → refused_as (length s) 5 ≡ of_root s (rooted s (elem_at s 12 i))
   unfolding elem_at opened open_at tailed rooted of_root
   root-unnamed e = rw e (go (eqb (byte_at s i) 60))
     where
@@ -140,7 +145,7 @@ module _ (s : List ℕ) (i : ℕ) where
       go false = refl
 
   -- a root whose name ends at a is judged by that name
-  pub root-named : (a : ℕ) → name_at s (i + 1) ≡ At a
+  pub root-named : (a : ℕ) → name_at s (i + 1) ≡ Some a
       → judged_root s (prefix_of s (i + 1) a) (root_ok s (i + 1) a) (rooted s (elem_at s 12 i)) ≡ of_root s (rooted s (elem_at s 12 i))
   unfolding elem_at rooted ended judged_root of_root
   root-named a e = go (elem_at s 12 i) refl
@@ -155,9 +160,9 @@ module _ (s : List ℕ) (i : ℕ) where
       kept g kids j t true = by-tag g kids j t
       kept g kids j t false = refl
 
-      after : (g : Tag) (kids : Forest) (j : ℕ) → Tagged i a g → (m : End) → Same (ended s (one g kids j) m)
-      after g kids j t (At k) = kept g kids j t (eqb k (length s))
-      after g kids j t No = refl
+      after : (g : Tag) (kids : Forest) (j : ℕ) → Tagged i a g → (m : Option ℕ) → Same (ended s (one g kids j) m)
+      after g kids j t (Some k) = kept g kids j t (eqb k (length s))
+      after g kids j t None = refl
 
       go : (o : One) → elem_at s 12 i ≡ o → Same (rooted s o)
       go (one g kids j) u = after g kids j (tag_is s i a j g kids (content_at s 11) (open_at s i) (open-named s i a e) u) (misc_at s j)
@@ -188,5 +193,5 @@ module _ (s : List ℕ) (i a c : ℕ) (colon : c ≡ colon_at s i a) where
   colon-from = rw colon (scan-ge (before_colon s a) (length s) i)
 
 -- a name ends behind where it begins, inside the message
-pub name-ends : (s : List ℕ) (i a : ℕ) → name_at s i ≡ At a → (i ≤ a) × (a ≤ length s)
+pub name-ends : (s : List ℕ) (i a : ℕ) → name_at s i ≡ Some a → (i ≤ a) × (a ≤ length s)
 name-ends s i a e = let g = name-goes s i a e in let g0 = g.on in (omega arith, g.in-it)

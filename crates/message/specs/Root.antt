@@ -4,8 +4,7 @@ use Rattle.std.specs.Prelude.{ℕ, ◌+◌, ◌-◌, Bool, false, ◌&&◌, not,
 use Rattle.octets.specs.Bytes.{pick, byte_at, part, same}
 use Rattle.octets.specs.Scan.{scan}
 use Rattle.octets.specs.Text.{bytes}
-use Rattle.pieces.specs.declared.End.{End}
-use Rattle.pieces.specs.declared.End.TheVariants.{At, No}
+use Rattle.std.specs.Prelude.{Option, Some, None}
 use Rattle.tags.specs.Attributes.{attr_named, decoded_at}
 use Rattle.reads.specs.Names.{name_of}
 
@@ -26,9 +25,9 @@ unfoldable pub xmlns_of : List ℕ → ℕ → ℕ → List ℕ
 xmlns_of s i a = pick (ltb (colon_at s i a) a) (bytes "xmlns:" ++ part s i (colon_at s i a - i)) (bytes "xmlns")
 
 -- the attribute's value decoded and otherwise as it stands
-unfoldable pub is_namespace : List ℕ → End → Bool
-is_namespace s (At v) = same (decoded_at s v) (bytes "urn:oasis:names:tc:emergency:cap:1.2")
-is_namespace s No = false
+unfoldable pub is_namespace : List ℕ → Option ℕ → Bool
+is_namespace s (Some v) = same (decoded_at s v) (bytes "urn:oasis:names:tc:emergency:cap:1.2")
+is_namespace s None = false
 
 -- a root of the prefix p, whose namespace is the value of the attribute w
 unfoldable pub root_with : List ℕ → List ℕ → List ℕ → ℕ → ℕ → Bool

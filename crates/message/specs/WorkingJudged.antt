@@ -3,7 +3,7 @@ use Rattle.std.specs.Prelude.{ℕ, Bool, true, false, ◌&&◌, ◌||◌, not, L
 use Prim.Native.String.{String}
 use Rattle.octets.specs.Bytes.{pick, every, holds}
 use Rattle.clock.specs.Time.{time_of, is_time}
-use Rattle.clock.specs.declared.Time.{Time}
+use Rattle.std.specs.Prelude.{Option, Some, None}
 use Rattle.values.specs.Value.{value_at}
 use Rattle.reads.specs.WorkingLeaves.{sound_of, only_of, identifier_leaf, sender_leaf, sent_leaf, status_leaf, msg_type_leaf, scope_leaf, expires_leaf, sender_name_leaf, description_leaf, instruction_leaf}
 use Rattle.reads.specs.declared.Leaf.{Leaf}
@@ -14,13 +14,17 @@ use Rattle.fields.specs.WorkingFields.{index_in, statuses, scopes, msg_type_in}
 use Rattle.fields.specs.declared.MsgType.{MsgType}
 use Rattle.faults.specs.WorkingField.{lowest}
 
+-- where the value of a leaf begins that is the only one of its name
+unfoldable pub place_in : Leaf → Option ℕ
+place_in l = pick (only_of l) (Some l.at) None
+
 -- identifier or sender; what is empty is none
 unfoldable pub identified : List ℕ → Leaf → Bool
 identified s l = only_of l && identity_ok (value_at s l.at)
 
 -- sent
-unfoldable pub timed : List ℕ → Leaf → Time
-timed s l = pick (only_of l) (time_of (value_at s l.at)) Time.Bad
+unfoldable pub timed : List ℕ → Leaf → Option ℕ
+timed s l = pick (only_of l) (time_of (value_at s l.at)) None
 
 -- status and scope: the place of the value among those of CAP 1.2; 0 for one unknown to it
 unfoldable pub place_among : List ℕ → List String → Leaf → ℕ
@@ -74,7 +78,7 @@ unfoldable pub info_ok : Info → Bool
 info_ok i = every holds (info_tests i)
 
 -- the fields at fault, in their order; the last is any other read leaf
-abbrev pub faults_with : List ℕ → Alert → Time → ℕ → MsgType → ℕ → List Bool
+abbrev pub faults_with : List ℕ → Alert → Option ℕ → ℕ → MsgType → ℕ → List Bool
 faults_with s a sent status msg_type scope =
     not (identified s (identifier_leaf a))
     ∷ not (identified s (sender_leaf a))

@@ -3,21 +3,21 @@
 
 ghost use Rattle.std.specs.Prelude.{◌≡◌, [], ◌∷◌, ◌++◌, not, ◌+◌, ◌≤◌, length};
 ghost use Rattle.octets.specs.Bytes.{every, holds};
-ghost use Rattle.fields.specs.WorkingFields.{statuses, scopes};
+ghost use Rattle.fields.specs.WorkingFields.{statuses, scopes, status_place, scope_place};
 ghost use Rattle.faults.specs.WorkingField.{lowest};
 ghost use Rattle.markup.specs.Tree.{elem_at};
 ghost use Rattle.markup.specs.Document.{rooted, doc_at};
 ghost use Rattle.message.specs.Root.{colon_at, root_with};
-ghost use Rattle.message.specs.WorkingJudged.{identified, timed, place_among, typed, is_unknown, info_ok, faults_with, number_with};
+ghost use Rattle.message.specs.WorkingJudged.{place_in, identified, timed, place_among, typed, is_unknown, info_ok, faults_with, number_with};
 ghost use Rattle.message.specs.WorkingMessage.{refused_as, judged, judged_root, root_context, of_root, message_says};
 
-use clock::Time;
-use fields::MsgType;
-use pieces::End;
+use faults::Faults;
+use fields::{MsgType, Scope, Status};
 use reader::Reader;
 use reads::{Alert, Context, Info, Leaf};
 
 // What a message says: its number and field; its msgType; the instant of sent; and what is read in its alert. After 4, 5 and 6 nothing is read.
+// Numbers, zeros and no Result: `message_says` has a message of each number, and the table of numbers in crate demands is in them.
 #[derive(Clone, Copy)]
 pub struct Message {
     pub number: u32,
@@ -31,104 +31,75 @@ pub struct Message {
 pub fn refused(n: usize, number: u32) -> Message
     ensures { result ≡ refused_as n number }
 {
-    let st = reads::new_state(n);
-    let a = st.alert;
     Message {
-        number: number,
+        number,
         field: 0,
         msg_type: MsgType::Unknown,
         sent: 0,
-        alert: a,
+        alert: reads::new_state(n).alert,
     }
 }
 
 // ---- leaves
 
+// Where the value of a leaf begins that is the only one of its name.
+fn place_of(l: Leaf) -> Option<usize>
+    ensures { result ≡ place_in l }
+{
+    if reads::is_only(l) { Some(l.at) } else { None }
+}
+
 fn is_identified(s: &[u8], l: Leaf) -> bool
     ensures { result ≡ identified s.now l }
 {
-    if !reads::is_only(l) {
-        return false;
+    match place_of(l) {
+        Some(at) => fields::identity_at(s, at),
+        None => false,
     }
-    fields::identity_at(s, l.at)
 }
 
-fn time_of(s: &[u8], l: Leaf) -> Time
+fn time_of(s: &[u8], l: Leaf) -> Option<u32>
     ensures { result ≡ timed s.now l }
 {
-    if !reads::is_only(l) {
-        return Time::Bad;
-    }
-    fields::time_at(s, l.at)
+    fields::time_at(s, place_of(l)?)
 }
 
-fn status_of(s: &[u8], l: Leaf) -> u32
-    ensures { result ≡ place_among s.now statuses l }
+fn status_of(s: &[u8], l: Leaf) -> Option<Status>
+    ensures { status_place result ≡ place_among s.now statuses l }
 {
-    if !reads::is_only(l) {
-        return 0;
-    }
-    fields::status_at(s, l.at)
+    fields::status_at(s, place_of(l)?)
 }
 
 fn msg_type_of(s: &[u8], l: Leaf) -> MsgType
     ensures { result ≡ typed s.now l }
 {
-    if !reads::is_only(l) {
-        return MsgType::Unknown;
+    match place_of(l) {
+        Some(at) => fields::msg_type_at(s, at),
+        None => MsgType::Unknown,
     }
-    fields::msg_type_at(s, l.at)
 }
 
-fn scope_of(s: &[u8], l: Leaf) -> u32
-    ensures { result ≡ place_among s.now scopes l }
+fn scope_of(s: &[u8], l: Leaf) -> Option<Scope>
+    ensures { scope_place result ≡ place_among s.now scopes l }
 {
-    if !reads::is_only(l) {
-        return 0;
-    }
-    fields::scope_at(s, l.at)
+    fields::scope_at(s, place_of(l)?)
 }
 
 // No eventCode, parameter, geocode or resource at fault.
 fn are_sound(i: Info) -> bool
     ensures { result ≡ every holds (not i.events.fault ∷ not i.parameters.fault ∷ not i.locations.fault ∷ not i.audio.fault ∷ []) }
 {
-    let events = i.events;
-    let parameters = i.parameters;
-    let locations = i.locations;
-    let audio = i.audio;
-    if events.fault {
-        return false;
-    }
-    if parameters.fault {
-        return false;
-    }
-    if locations.fault {
-        return false;
-    }
-    !audio.fault
+    !i.events.fault && !i.parameters.fault && !i.locations.fault && !i.audio.fault
 }
 
 fn is_info_sound(i: Info) -> bool
     ensures { result ≡ info_ok i }
 {
-    let expires = i.leaf[reads::EXPIRES];
-    let sender_name = i.leaf[reads::SENDER_NAME];
-    let description = i.leaf[reads::DESCRIPTION];
-    let instruction = i.leaf[reads::INSTRUCTION];
-    if !reads::is_sound(expires) {
-        return false;
-    }
-    if !reads::is_sound(sender_name) {
-        return false;
-    }
-    if !reads::is_sound(description) {
-        return false;
-    }
-    if !reads::is_sound(instruction) {
-        return false;
-    }
-    are_sound(i)
+    reads::is_sound(i.leaf[reads::EXPIRES])
+        && reads::is_sound(i.leaf[reads::SENDER_NAME])
+        && reads::is_sound(i.leaf[reads::DESCRIPTION])
+        && reads::is_sound(i.leaf[reads::INSTRUCTION])
+        && are_sound(i)
 }
 
 // ---- the judgement
@@ -136,95 +107,79 @@ fn is_info_sound(i: Info) -> bool
 fn is_unknown(t: MsgType) -> bool
     ensures { result ≡ is_unknown t }
 {
-    match t {
-        MsgType::Unknown => true,
-        MsgType::Alert => false,
-        MsgType::Update => false,
-        MsgType::Cancel => false,
-        MsgType::Ack => false,
-        MsgType::Error => false,
-    }
+    matches!(t, MsgType::Unknown)
 }
 
-fn field_with(s: &[u8], a: Alert, sent: Time, status: u32, msg_type: MsgType, scope: u32) -> u32
-    ensures { result ≡ lowest (faults_with s.now a sent status msg_type scope) }
+fn field_with(
+    s: &[u8],
+    a: Alert,
+    sent: Option<u32>,
+    status: Option<Status>,
+    msg_type: MsgType,
+    scope: Option<Scope>,
+) -> u32
+    ensures { result ≡ lowest (faults_with s.now a sent (status_place status) msg_type (scope_place scope)) }
 {
-    let identifier = a.leaf[reads::IDENTIFIER];
-    let sender = a.leaf[reads::SENDER];
-    let i = a.info;
-    let no_identifier = !is_identified(s, identifier);
-    let no_sender = !is_identified(s, sender);
-    let no_sent = !clock::is_time(sent);
-    let other = reads::either(a.fault, !is_info_sound(i));
-    faults::field(
-        no_identifier,
-        no_sender,
-        no_sent,
-        status == 0,
-        is_unknown(msg_type),
-        scope == 0,
-        other,
-    )
+    Faults {
+        identifier: !is_identified(s, a.leaf[reads::IDENTIFIER]),
+        sender: !is_identified(s, a.leaf[reads::SENDER]),
+        sent: sent.is_none(),
+        status: status.is_none(),
+        msg_type: is_unknown(msg_type),
+        scope: scope.is_none(),
+        other: a.fault || !is_info_sound(a.info),
+    }
+    .field()
 }
 
-fn number_with(field: u32, status: u32, scope: u32, msg_type: MsgType) -> u32
-    ensures { result ≡ number_with field status scope msg_type }
+fn number_with(field: u32, status: Option<Status>, scope: Option<Scope>, msg_type: MsgType) -> u32
+    ensures { result ≡ number_with field (status_place status) (scope_place scope) msg_type }
 {
     if field != 0 {
         return 7;
     }
-    if status != 1 {
+    let Some(Status::Actual) = status else {
         return 8;
-    }
-    if scope != 1 {
+    };
+    let Some(Scope::Public) = scope else {
         return 8;
-    }
+    };
     match msg_type {
-        MsgType::Unknown => 0,
-        MsgType::Alert => 0,
-        MsgType::Update => 0,
-        MsgType::Cancel => 0,
-        MsgType::Ack => 9,
-        MsgType::Error => 9,
+        MsgType::Ack | MsgType::Error => 9,
+        _ => 0,
     }
 }
 
 fn judge(s: &[u8], a: Alert) -> Message
     ensures { result ≡ judged s.now a }
 {
-    let sent_leaf = a.leaf[reads::SENT];
-    let status_leaf = a.leaf[reads::STATUS];
-    let msg_type_leaf = a.leaf[reads::MSG_TYPE];
-    let scope_leaf = a.leaf[reads::SCOPE];
-    let sent = time_of(s, sent_leaf);
-    let status = status_of(s, status_leaf);
-    let msg_type = msg_type_of(s, msg_type_leaf);
-    let scope = scope_of(s, scope_leaf);
+    let sent = time_of(s, a.leaf[reads::SENT]);
+    let status = status_of(s, a.leaf[reads::STATUS]);
+    let msg_type = msg_type_of(s, a.leaf[reads::MSG_TYPE]);
+    let scope = scope_of(s, a.leaf[reads::SCOPE]);
     let field = field_with(s, a, sent, status, msg_type, scope);
     Message {
         number: number_with(field, status, scope, msg_type),
-        field: field,
-        msg_type: msg_type,
-        sent: clock::seconds(sent),
+        field,
+        msg_type,
+        sent: sent.unwrap_or(0),
         alert: a,
     }
 }
 
 // ---- the root
 
-// Where the colon of the name from `from` to `to` stands; its end where there is none.
+// Where the colon of the name from `from` to `to` stands; its end where there is none, as `colon_at` has it. By places, as one is what is asked.
 fn colon(s: &[u8], from: usize, to: usize) -> usize
     requires { (from ≤ to) × (to ≤ length s.now) }
     ensures { result ≡ colon_at s.now from to }
 {
-    let mut i = from;
-    while i < to {
-        if s[i] == 58 {
+    for i in from..to {
+        if s[i] == b':' {
             return i;
         }
-        i += 1;
     }
-    i
+    to
 }
 
 // Whether the root whose name stands from `from` to `to` is an alert of the prefix p, with the namespace as its attribute of the name `lead` and `rest`.
@@ -236,10 +191,9 @@ fn is_root(s: &[u8], p: &[u8], lead: &[u8], rest: &[u8], from: usize, to: usize)
     if !octets::equal(&s[at..to], b"alert") {
         return false;
     }
-    let v = tags::find(s, lead, rest, to, s.len());
-    match v {
-        End::At(q) => tags::value_is(s, q, b"urn:oasis:names:tc:emergency:cap:1.2"),
-        End::No => false,
+    match tags::find(s, lead, rest, to, s.len()) {
+        Some(q) => tags::value_is(s, q, b"urn:oasis:names:tc:emergency:cap:1.2"),
+        None => false,
     }
 }
 
@@ -249,12 +203,10 @@ fn pass(s: &[u8], p: &[u8], i: usize, ok: bool) -> Message
 {
     let n = s.len();
     let g = gather::element(s, p, i, 12, root_context(ok));
-    let e = g.end;
-    let End::At(j) = e else {
+    let Some(j) = g.end else {
         return refused(n, 5);
     };
-    let m = markup::misc(s, j);
-    let End::At(k) = m else {
+    let Some(k) = markup::misc(s, j) else {
         return refused(n, 5);
     };
     if k != n {
@@ -263,19 +215,14 @@ fn pass(s: &[u8], p: &[u8], i: usize, ok: bool) -> Message
     if !ok {
         return refused(n, 6);
     }
-    let st = g.state;
-    let a = st.alert;
-    judge(s, a)
+    judge(s, g.state.alert)
 }
 
 // What is in a root that is not accepted is skipped.
 fn root_context(ok: bool) -> Context
     ensures { result ≡ root_context ok }
 {
-    if ok {
-        return Context::Root;
-    }
-    Context::Skipped
+    if ok { Context::Root } else { Context::Skipped }
 }
 
 // The message whose root begins at i.
@@ -284,8 +231,7 @@ fn read_root(s: &[u8], i: usize) -> Message
     ensures { result ≡ of_root s.now (rooted s.now (elem_at s.now 12 i)) }
 {
     let from = i + 1;
-    let x = pieces::name(s, from);
-    let End::At(to) = x else {
+    let Some(to) = pieces::name(s, from) else {
         return refused(s.len(), 5);
     };
     let c = colon(s, from, to);
@@ -324,19 +270,15 @@ fn read_rest<'a>(r: Reader<'a>) -> Message
 fn read_forward(s: &[u8]) -> Message
     ensures { result ≡ of_root s.now (doc_at s.now) }
 {
-    read_rest(reader::lead(reader::new(s)))
+    read_rest(Reader::new(s).lead())
 }
 
 // Reads and judges a message.
 pub fn read(s: &[u8]) -> Message
     ensures { result ≡ message_says s.now }
 {
-    let n = s.len();
-    if n < 1 {
-        return refused(n, 4);
+    match s.len() {
+        1..=32768 => read_forward(s),
+        n => refused(n, 4),
     }
-    if 32768 < n {
-        return refused(n, 4);
-    }
-    read_forward(s)
 }

@@ -10,12 +10,12 @@ use mathlib.Core.List.{List, [], ◌∷◌, ◌++◌, map, append_assoc, append-
 use native.Mathlib.Omega.{arith}
 use native.Mathlib.Decide.{dec_lt}
 use lib.ListN.{length, take, drop, replicate, length-append}
-use lib.Seq.{sets, length-sets, take_all}
+use lib.Seq.{sets, length-sets, length-take-le, take_all}
 use Rattle.octets.specs.Bytes.{pick, every, one_of}
 use Rattle.octets.proofs.Tests.{each_of, every_first, every_rest}
 use Rattle.octets.proofs.Runs.{sets-append}
 use Rattle.clock.specs.Time.{time_of, instant_in}
-use Rattle.clock.specs.declared.Time.{Time}
+use Rattle.std.specs.Prelude.{Option, Some, None, unwrap_or}
 use Rattle.values.specs.Value.{value_at}
 use Rattle.values.specs.WorkingSteps.{rest_at, lead_at, low}
 use Rattle.values.proofs.Steps.{value-start}
@@ -27,8 +27,8 @@ use Rattle.fields.specs.WorkingWords.{word_in, next_word, word_at}
 use Rattle.fields.specs.declared.Word.{Word}
 use Rattle.fields.proofs.Identities.{identity-short, identity-kept}
 use Rattle.fields.proofs.Groups.{group_tests, group-long, group-kept, no-first, no_second, Parted, parted}
-use Rattle.fields.proofs.Words.{value-words, len_is, next-is, more-is}
-use Rattle.fields.proofs.Lists.{word_room, word_copied}
+use Rattle.fields.proofs.Words.{value-words, len_is, more-is, last-is}
+use Rattle.fields.proofs.Lists.{word_room, word-long, word_copied}
 use Rattle.judgement.specs.WorkingRules.{asks_references}
 use Rattle.judgement.specs.declared.Judged.{Judged}
 use Rattle.records.specs.Record.{pad, be4, key_of, notice, withdrawal}
@@ -66,18 +66,28 @@ notice-laid sent a b h x y z r oa ob lh px py pz e =
 pub commas : (t : List ℕ) (a b : ℕ) → group_ok t ≡ true → a ≡ 0 + length (up_to 44 (drop 0 t)) → b ≡ a + 1 + length (up_to 44 (drop (a + 1) t)) → Parted t a b
 commas t a b ok e f = parted t a e (λ h. true≢false (sym ok ∙ no-first t a e h)) b f (λ h. true≢false (sym ok ∙ no_second t a e b f h))
 
+seconds-are : (x : Option ℕ) → unwrap_or x 0 ≡ instant_in x
+seconds-are (Some n) = refl
+seconds-are None = refl
+
 module _ (t : List ℕ) (a b : ℕ) (ok : group_ok t ≡ true) (p : Parted t a b) where
-  pub names-short : (length (take (a - 0) (drop 0 t)) ≤ 64) × (length (take (b - (a + 1)) (drop (a + 1) t)) ≤ 64)
+  sender : take a t ≡ sender_of t
+  sender = ap (λ (k : ℕ). take k t) (let q : a ≡ a - 0 = omega arith in q) ∙ p.sender
+
+  pub sender-fits : a ≡ length (take a t)
+  sender-fits = sym (length-take-le a t (omega (arith, p.order, p.inside)))
+
+  pub names-short : (length (take a t) ≤ 64) × (length (take (b - (a + 1)) (drop (a + 1) t)) ≤ 64)
   unfolding group_ok
   names-short =
       let g = each_of (group_tests t) ok in
-      (rw p.sender (identity-short (sender_of t) g.0), rw p.identifier (identity-short (identifier_of t) g.1.0))
+      (rw sender (identity-short (sender_of t) g.0), rw p.identifier (identity-short (identifier_of t) g.1.0))
 
-  pub group-laid : (n : ℕ) (x : Time) (r : List ℕ) → x ≡ time_of (take (length t - (b + 1)) (drop (b + 1) t)) → n ≡ instant_in x → r ≡ withdrawal (key_of n (take (a - 0) (drop 0 t)) (take (b - (a + 1)) (drop (a + 1) t))) → r ≡ withdrawal (named_by t)
+  pub group-laid : (n : ℕ) (x : Option ℕ) (r : List ℕ) → x ≡ time_of (take (length t - (b + 1)) (drop (b + 1) t)) → n ≡ unwrap_or x 0 → r ≡ withdrawal (key_of n (take a t) (take (b - (a + 1)) (drop (a + 1) t))) → r ≡ withdrawal (named_by t)
   unfolding named_by
   group-laid n x r e f g =
-      let q = f ∙ ap instant_in (e ∙ ap time_of p.sent) in
-      g ∙ (λ i. withdrawal (key_of (q i) (p.sender i) (p.identifier i)))
+      let q = f ∙ seconds-are x ∙ ap instant_in (e ∙ ap time_of p.sent) in
+      g ∙ (λ i. withdrawal (key_of (q i) (sender i) (p.identifier i)))
 
 pub group-fits : (w : List ℕ) → group_ok w ≡ true → length w ≤ 155
 group-fits w ok = go (dec_lt 155 (length w))
@@ -94,10 +104,13 @@ module _ (s : List ℕ) (at : ℕ) (w : Word) (x : List ℕ) (told : w ≡ word_
   pub word_fits : w.len ≤ length x
   word_fits = omega (arith, short, word_room s at w x told put)
 
-  pub word_back : take (w.len - 0) (drop 0 x) ≡ word_in s at
+  pub word_whole : w.len ≡ length (take w.len x)
+  word_whole = word-long s at w x told put short
+
+  pub word_back : take w.len x ≡ word_in s at
   word_back = word_copied s at w x told put short ∙ keeps (word_in s at) (group-kept (word_in s at) ok)
 
-  module _ (r : List ℕ) (made : r ≡ withdrawal (named_by (take (w.len - 0) (drop 0 x)))) where
+  module _ (r : List ℕ) (made : r ≡ withdrawal (named_by (take w.len x))) where
     pub withdrawal-is : r ≡ withdrawal (named_by (word_in s at))
     withdrawal-is = made ∙ ap (λ (l : List ℕ). withdrawal (named_by l)) word_back
 
@@ -146,9 +159,9 @@ module _ {s : List ℕ} {at : ℕ} {d : List ℕ} {n : ℕ} {x : List ℕ} {i k 
   made = record-long (withdrawal (named_by (word_in s i))) (named-good (word_in s i) next-group)
 
   module _ (w : Word) (y : List ℕ) (told : w ≡ word_at s i) (put : y ≡ sets x (k * 384) (withdrawal (named_by (word_in s i)))) where
-    module _ (e : w.more ≡ false) where
+    module _ (e : w.next ≡ None) where
       alone : words (rest_at s i) ≡ word_in s i ∷ []
-      alone = value-words s i ∙ ap (λ (b : Bool). word_in s i ∷ pick b (words (rest_at s (next_word s i))) []) (sym (more-is s i w told) ∙ e)
+      alone = value-words s i ∙ ap (λ (b : Bool). word_in s i ∷ pick b (words (rest_at s (next_word s i))) []) (last-is s i w told e)
 
       pub put_last : (k + 1 ≡ n + length (words (value_at s at))) × (y ≡ sets d (n * 384) (withdrawals (words (value_at s at))))
       put_last = (
@@ -156,17 +169,17 @@ module _ {s : List ℕ} {at : ℕ} {d : List ℕ} {n : ℕ} {x : List ℕ} {i k 
         put ∙ ap (sets x (k * 384)) (sym (append-nil (withdrawal (named_by (word_in s i))))) ∙ sym (ap (λ (ws : List (List ℕ)). sets x (k * 384) (withdrawals ws)) alone) ∙ p.puts,
       )
 
-    module _ (e : w.more ≡ true) where
-      first : words (rest_at s i) ≡ word_in s i ∷ words (rest_at s w.next)
+    module _ (j : ℕ) (e : w.next ≡ Some j) where
+      first : words (rest_at s i) ≡ word_in s i ∷ words (rest_at s j)
       first =
           value-words s i
-          ∙ ap (λ (b : Bool). word_in s i ∷ pick b (words (rest_at s (next_word s i))) []) (sym (more-is s i w told) ∙ e)
-          ∙ ap (λ (q : ℕ). word_in s i ∷ words (rest_at s q)) (sym (next-is s i w told))
+          ∙ ap (λ (b : Bool). word_in s i ∷ pick b (words (rest_at s (next_word s i))) []) (more-is s i w told j e).0
+          ∙ ap (λ (q : ℕ). word_in s i ∷ words (rest_at s q)) (sym (more-is s i w told j e).1)
 
-      pub fewer : length (words (rest_at s w.next)) < length (words (rest_at s i))
+      pub fewer : length (words (rest_at s j)) < length (words (rest_at s i))
       fewer = let q = ap length first in omega arith
 
-      pub put-more : Putting s at d n y w.next (k + 1)
+      pub put-more : Putting s at d n y j (k + 1)
       put-more =
           let r = withdrawal (named_by (word_in s i)) in
           let m = made in
@@ -174,11 +187,11 @@ module _ {s : List ℕ} {at : ℕ} {d : List ℕ} {n : ℕ} {x : List ℕ} {i k 
           let c = p.counts in
           let at_next : (k + 1) * 384 ≡ k * 384 + length r = omega arith in
           record {
-            groups = every_rest group_ok (word_in s i) (words (rest_at s w.next)) (sym (ap (every group_ok) first) ∙ p.groups);
+            groups = every_rest group_ok (word_in s i) (words (rest_at s j)) (sym (ap (every group_ok) first) ∙ p.groups);
             few = p.few;
             counts = omega arith;
-            puts = ap₂ (λ (z : List ℕ) (o : ℕ). sets z o (withdrawals (words (rest_at s w.next)))) put at_next
-                ∙ sets-append x (k * 384) r (withdrawals (words (rest_at s w.next)))
+            puts = ap₂ (λ (z : List ℕ) (o : ℕ). sets z o (withdrawals (words (rest_at s j)))) put at_next
+                ∙ sets-append x (k * 384) r (withdrawals (words (rest_at s j)))
                 ∙ sym (ap (λ (ws : List (List ℕ)). sets x (k * 384) (withdrawals ws)) first) ∙ p.puts;
             long = ap length put ∙ length-sets x (k * 384) r ∙ p.long;
           }

@@ -18,7 +18,7 @@ use fields::Word;
 use judgement::Judged;
 use records::Record;
 
-// What an offer answers: the number; the field beside 7; and how many records were added.
+// What an offer answers: the number; the field beside 7; and how many records were added. No Result: message_offer promises all three, and C reads them.
 #[derive(Drop)]
 pub struct Offered {
     pub number: u32,
@@ -36,7 +36,7 @@ fn withdrawal_by(t: &[u8]) -> Record
     let a = fields::comma(t, 0);
     let b = fields::comma(t, a + 1);
     let sent = clock::instant(&t[b + 1..]);
-    Record::withdrawal(clock::seconds(sent), &t[0..a], &t[a + 1..b])
+    Record::withdrawal(sent.unwrap_or(0), &t[..a], &t[a + 1..b])
 }
 
 // Puts the withdrawal of the next reference as record k.
@@ -48,14 +48,14 @@ fn put_withdrawal(s: &[u8], at: usize, batch: &mut [u8], k: usize) -> Word
 {
     let mut group = [0u8; 155];
     let w = fields::next_word(s, at, &mut group);
-    let n = w.len;
-    let r = withdrawal_by(&group[0..n]);
+    let r = withdrawal_by(&group[..w.len]);
     let bytes = r.bytes;
     octets::put_bytes(batch, k * Record::SIZE, &bytes);
     w
 }
 
 // Puts a withdrawal for each reference, from record n on, and says how many records there are then.
+// Not an iterator's loop: where the next reference begins, and whether there is one, each tells when it is read.
 fn put_withdrawals(s: &[u8], at: usize, batch: &mut [u8], n: usize) -> usize
     requires at_value { references_ok (value_at s.now at) ≡ true }
     requires n_bound { (n ≤ 1) × (17 * 384 ≤ length batch.old) }
@@ -67,10 +67,10 @@ fn put_withdrawals(s: &[u8], at: usize, batch: &mut [u8], n: usize) -> usize
     loop {
         let w = put_withdrawal(s, i, batch, k);
         k += 1;
-        if !w.more {
-            return k;
+        match w.next {
+            Some(j) => i = j,
+            None => return k,
         }
-        i = w.next;
     }
 }
 
@@ -81,18 +81,14 @@ fn notice_by(s: &[u8], j: Judged) -> Record
     requires { (j ≡ judged_of s.now) × (j.number ≡ 0) × (j.quiet ≡ false) }
     ensures { result.bytes ≡ notice (own_in s.now j.message) (zero_filled_header j) }
 {
-    let m = j.message;
-    let a = m.alert;
-    let identifier = a.leaf[reads::IDENTIFIER];
-    let sender = a.leaf[reads::SENDER];
-    let body = j.body;
+    let a = j.message.alert;
     let mut by = [0u8; 64];
-    values::copy(s, sender.at, 64, &mut by, 0);
+    values::copy(s, a.leaf[reads::SENDER].at, 64, &mut by, 0);
     let mut called = [0u8; 64];
-    values::copy(s, identifier.at, 64, &mut called, 0);
-    let mut head = [0u8; 243];
-    header::put_body(&mut head, 0, body);
-    Record::notice(m.sent, &by, &called, &head)
+    values::copy(s, a.leaf[reads::IDENTIFIER].at, 64, &mut called, 0);
+    let mut head = [0u8; Record::FRONT];
+    header::put_body(&mut head, 0, j.body);
+    Record::notice(j.message.sent, &by, &called, &head)
 }
 
 // Puts the notice, unless the message is quiet, and says how many records there are then.
@@ -104,9 +100,7 @@ fn put_notice(s: &[u8], j: Judged, batch: &mut [u8]) -> usize
     if j.quiet {
         return 0;
     }
-    let r = notice_by(s, j);
-    let bytes = r.bytes;
-    octets::put_bytes(batch, 0, &bytes);
+    octets::put_bytes(batch, 0, &notice_by(s, j).bytes);
     1
 }
 
@@ -119,14 +113,10 @@ fn put_records(s: &[u8], j: Judged, batch: &mut [u8]) -> usize
     ensures batch_after { batch.new ≡ sets batch.old 0 (flat (records (alert_by s.now j))) }
 {
     let n = put_notice(s, j, batch);
-    let m = j.message;
-    let t = m.msg_type;
-    if !judgement::asks_references(t) {
+    if !judgement::asks_references(j.message.msg_type) {
         return n;
     }
-    let a = m.alert;
-    let references = a.leaf[reads::REFERENCES];
-    put_withdrawals(s, references.at, batch, n)
+    put_withdrawals(s, j.message.alert.leaf[reads::REFERENCES].at, batch, n)
 }
 
 // ---- the call

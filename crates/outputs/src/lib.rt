@@ -9,7 +9,7 @@ ghost use Rattle.outputs.specs.WorkingOutputs.{roomy_text, uri_in, UriFits, text
 use reads::Audio;
 
 // What a call answers that gives text and audio: the number and the field; audio (0 none, 1 mp3, 2 wav, 3 stream); how long uri
-// and text are.
+// and text are. The numbers are those that C is answered, and a refusal has zeros elsewhere: `text_answer_of` promises both.
 #[derive(Drop)]
 pub struct TextAudio {
     pub number: u32,
@@ -23,10 +23,7 @@ pub struct TextAudio {
 pub fn is_roomy(text: usize, uri: usize) -> bool
     ensures { result ≡ roomy_text text uri }
 {
-    if text < 7200 {
-        return false;
-    }
-    1024 <= uri
+    7200 <= text && 1024 <= uri
 }
 
 // Puts the uri of the audio choice at the start of `out`, and says how long it is.
@@ -47,8 +44,8 @@ pub fn answer_alone(number: u32, field: u32) -> TextAudio
     ensures { result ≡ text_answer_of (text_refused number field) }
 {
     TextAudio {
-        number: number,
-        field: field,
+        number,
+        field,
         audio: 0,
         uri: 0,
         text: 0,

@@ -20,12 +20,12 @@ use Rattle.parts.specs.WorkingAsked.{sixes_bytes, sixes, sixes_tests, sixes_ok, 
 use Rattle.parts.specs.Originator.{originator_number, numbered}
 use Rattle.parts.specs.Parts.{is_location, body_ok, station_ok, no_station}
 use Rattle.parts.specs.declared.Body.{Body}
-use Rattle.parts.specs.declared.Origin.TheVariants.{Known}
+use Rattle.std.specs.Prelude.{Some}
 use Rattle.parts.specs.declared.Originator.{Originator}
 use Rattle.parts.specs.declared.Originator.TheVariants.{Pep, Eas, Wxr, Civ}
 use Rattle.parts.specs.declared.Parts.{Parts}
 
-pub numbered-back : (o : Originator) → numbered (originator_number o) ≡ Known o
+pub numbered-back : (o : Originator) → numbered (originator_number o) ≡ Some o
 unfolding numbered
 numbered-back Pep = refl
 numbered-back Eas = refl

@@ -14,10 +14,9 @@ use Rattle.octets.specs.Digits.{all_digits, value}
 use Rattle.parts.specs.Parts.{padded}
 use Rattle.parts.specs.WorkingAsked.{sixes, sixes_tests, sixes_ok, sixes_read, asked_tests, asked_ok, asked_body}
 use Rattle.parts.specs.Originator.{is_known, known, numbered}
-use Rattle.parts.specs.Parts.{no_locations, no_body}
+use Rattle.parts.specs.Parts.{no_body}
 use Rattle.parts.specs.declared.Body.{Body}
-use Rattle.parts.specs.declared.Locations.{Locations}
-use Rattle.parts.specs.declared.Origin.TheVariants.{Known}
+use Rattle.std.specs.Prelude.{Some, None}
 use Rattle.parts.specs.declared.Originator.{Originator}
 
 -- ---- six digits for each location
@@ -48,21 +47,29 @@ module _ (s : List ℕ) (k : ℕ) (so : all_digits (drop (6 * k) s) ≡ all_digi
   pub digits-ended : length s ≤ 6 * k → all_digits s ≡ true
   digits-ended h = sym so ∙ ap all_digits (drop_of_length-le s h) ∙ every-none is_digit
 
-pub sixes-refused : (i : ℕ) (s : List ℕ) → get_or (sixes_tests s) i true ≡ false → sixes_read s ≡ record { ok = false; list = no_locations }
+pub sixes-refused : (i : ℕ) (s : List ℕ) → get_or (sixes_tests s) i true ≡ false → sixes_read s ≡ None
 unfolding sixes_read sixes_ok
 sixes-refused i s h = rw (one-fails i (sixes_tests s) h)
 
-pub sixes-taken : (s : List ℕ) → sixes_ok s ≡ true → sixes_read s ≡ record { ok = true; list = padded (sixes (length s / 6) s 0) }
+pub sixes-taken : (s : List ℕ) → sixes_ok s ≡ true → sixes_read s ≡ Some (padded (sixes (length s / 6) s 0))
 unfolding sixes_read
 sixes-taken s h = rw h
 
-pub sixes-ok-is : (s : List ℕ) → (sixes_read s).ok ≡ sixes_ok s
+pub sixes-none : (s : List ℕ) → sixes_read s ≡ None → sixes_ok s ≡ false
 unfolding sixes_read
-sixes-ok-is s = go (sixes_ok s)
+sixes-none s h = go (sixes_ok s) h
   where
-    go : (b : Bool) → (pick {A = Locations} b (record { ok = true; list = padded (sixes (length s / 6) s 0) }) (record { ok = false; list = no_locations })).ok ≡ b
-    go true = refl
-    go false = refl
+    go : (b : Bool) → pick b (Some (padded (sixes (length s / 6) s 0))) None ≡ None → b ≡ false
+    go true h = let z : ◌≡◌ {A = ℕ} 0 1 = cc in absurd (omega arith)
+    go false h = refl
+
+pub sixes-some : (s l : List ℕ) → sixes_read s ≡ Some l → (sixes_ok s ≡ true) × (l ≡ padded (sixes (length s / 6) s 0))
+unfolding sixes_read
+sixes-some s l h = go (sixes_ok s) h
+  where
+    go : (b : Bool) → pick b (Some (padded (sixes (length s / 6) s 0))) None ≡ Some l → (b ≡ true) × (l ≡ padded (sixes (length s / 6) s 0))
+    go true h = (refl, cc)
+    go false h = let z : ◌≡◌ {A = ℕ} 0 1 = cc in absurd (omega arith)
 
 -- ---- the body that is asked
 
@@ -71,7 +78,7 @@ module _ (originator : ℕ) (event locations : List ℕ) (period day hour minute
   unfolding asked_body asked_ok
   asked-refused i h = rw (one-fails i (asked_tests originator event locations) h)
 
-  pub asked-taken : (o : Originator) (e l : List ℕ) → numbered originator ≡ Known o → length event ≡ 3 → sixes_ok locations ≡ true → e ≡ event → l ≡ padded (sixes (length locations / 6) locations 0) →
+  pub asked-taken : (o : Originator) (e l : List ℕ) → numbered originator ≡ Some o → length event ≡ 3 → sixes_ok locations ≡ true → e ≡ event → l ≡ padded (sixes (length locations / 6) locations 0) →
       ◌≡◌ {A = Body} (record { originator = o; event = e; count = length locations / 6; locations = l; period = period; day = day; hour = hour; minute = minute }) (asked_body originator event locations period day hour minute)
   unfolding asked_body asked_ok
   asked-taken o e l n k s f g =

@@ -4,8 +4,7 @@ use Rattle.octets.specs.Bytes.{pick, same}
 use Rattle.octets.specs.Text.{bytes}
 use Rattle.parts.specs.declared.Originator.{Originator}
 use Rattle.parts.specs.declared.Originator.TheVariants.{Pep, Eas, Wxr, Civ}
-use Rattle.parts.specs.declared.Origin.{Origin}
-use Rattle.parts.specs.declared.Origin.TheVariants.{Known, Unknown}
+use Rattle.std.specs.Prelude.{Option, Some, None}
 
 -- ORG: exactly PEP, EAS, WXR or CIV
 unfoldable pub originator_bytes : Originator → List ℕ
@@ -15,22 +14,22 @@ originator_bytes Wxr = bytes "WXR"
 originator_bytes Civ = bytes "CIV"
 
 -- the originator that the bytes name, if they name one
-unfoldable pub originator_of : List ℕ → Origin
+unfoldable pub originator_of : List ℕ → Option Originator
 originator_of b =
-    pick (same b (originator_bytes Pep)) (Known Pep)
-    (pick (same b (originator_bytes Eas)) (Known Eas)
-    (pick (same b (originator_bytes Wxr)) (Known Wxr)
-    (pick (same b (originator_bytes Civ)) (Known Civ)
-    Unknown)))
+    pick (same b (originator_bytes Pep)) (Some Pep)
+    (pick (same b (originator_bytes Eas)) (Some Eas)
+    (pick (same b (originator_bytes Wxr)) (Some Wxr)
+    (pick (same b (originator_bytes Civ)) (Some Civ)
+    None)))
 
-abbrev pub is_known : Origin → Bool
-is_known (Known o) = true
-is_known Unknown = false
+abbrev pub is_known : Option Originator → Bool
+is_known (Some o) = true
+is_known None = false
 
 -- the originator that is known, and PEP where none is
-abbrev pub known : Origin → Originator
-known (Known o) = o
-known Unknown = Pep
+abbrev pub known : Option Originator → Originator
+known (Some o) = o
+known None = Pep
 
 -- ---- by number
 
@@ -42,5 +41,5 @@ originator_number Wxr = 3
 originator_number Civ = 4
 
 -- the originator of a number, if it has one
-unfoldable pub numbered : ℕ → Origin
-numbered n = pick (eqb n 1) (Known Pep) (pick (eqb n 2) (Known Eas) (pick (eqb n 3) (Known Wxr) (pick (eqb n 4) (Known Civ) Unknown)))
+unfoldable pub numbered : ℕ → Option Originator
+numbered n = pick (eqb n 1) (Some Pep) (pick (eqb n 2) (Some Eas) (pick (eqb n 3) (Some Wxr) (pick (eqb n 4) (Some Civ) None)))

@@ -1,10 +1,9 @@
 -- Parts as a caller over numbers and bytes asks for them.
-use Rattle.std.specs.Prelude.{ℕ, zero, suc, ◌+◌, ◌*◌, ◌/◌, Bool, true, false, List, [], ◌∷◌, ◌++◌, length, leb, eqb}
+use Rattle.std.specs.Prelude.{ℕ, zero, suc, ◌+◌, ◌*◌, ◌/◌, Bool, List, [], ◌∷◌, ◌++◌, length, leb, eqb, Option, Some, None}
 use Rattle.octets.specs.Bytes.{pick, part, every, holds}
 use Rattle.octets.specs.Digits.{all_digits, value, digits}
 use Rattle.parts.specs.Originator.{is_known, known, numbered}
-use Rattle.parts.specs.Parts.{no_locations, no_body, no_station, padded}
-use Rattle.parts.specs.declared.Locations.{Locations}
+use Rattle.parts.specs.Parts.{no_body, no_station, padded}
 use Rattle.parts.specs.declared.Body.{Body}
 use Rattle.parts.specs.declared.Parts.{Parts}
 
@@ -25,8 +24,8 @@ sixes_tests s = leb (length s) 186 ∷ eqb (length s) (6 * (length s / 6)) ∷ a
 unfoldable pub sixes_ok : List ℕ → Bool
 sixes_ok s = every holds (sixes_tests s)
 
-unfoldable pub sixes_read : List ℕ → Locations
-sixes_read s = pick (sixes_ok s) (record { ok = true; list = padded (sixes (length s / 6) s 0) }) (record { ok = false; list = no_locations })
+unfoldable pub sixes_read : List ℕ → Option (List ℕ)
+sixes_read s = pick (sixes_ok s) (Some (padded (sixes (length s / 6) s 0))) None
 
 -- a body where the originator has a number, the event three bytes and each location six digits; else zeros, which no header has
 abbrev pub asked_tests : ℕ → List ℕ → List ℕ → List Bool

@@ -1,34 +1,19 @@
 // The parts of a header as a value: which parts a header has, and parts as a caller over numbers and bytes asks for them.
 #![tactic(auto)]
 
-ghost use Rattle.std.specs.Prelude.{◌≡◌, ◌+◌, ◌≤◌, length, take, drop};
-ghost use Rattle.octets.specs.Bytes.{part, every};
-ghost use Rattle.parts.specs.Originator.{originator_of, originator_number, numbered};
-ghost use Rattle.parts.specs.Parts.{event_ok, is_location, is_zero, locations_ok, is_period, times_ok, body_ok, is_station_byte, station_ok, no_body};
+ghost use Rattle.std.specs.Prelude.{◌≡◌, ◌+◌, ◌≤◌, length};
+ghost use Rattle.std.specs.Option.{unwrap_or};
+ghost use Rattle.octets.specs.Bytes.{part};
+ghost use Rattle.parts.specs.Originator.{originator_bytes, originator_of, originator_number, numbered};
+ghost use Rattle.parts.specs.Parts.{event_ok, locations_ok, is_period, times_ok, body_ok, is_station_byte, station_ok, no_body};
 ghost use Rattle.parts.specs.WorkingAsked.{sixes_read, asked_body, asked_station, asked_parts};
 
-use octets::Num;
-
-#[derive(Clone, Copy)]
+#[derive(Clone, Copy, PartialEq, Eq)]
 pub enum Originator {
     Pep,
     Eas,
     Wxr,
     Civ,
-}
-
-// What names an originator, or does not.
-#[derive(Drop)]
-pub enum Origin {
-    Known(Originator),
-    Unknown,
-}
-
-// Locations with zeros behind them; zeros alone where they are refused.
-#[derive(Drop)]
-pub struct Locations {
-    pub ok: bool,
-    pub list: [u32; 31],
 }
 
 // The header through the dash after JJJHHMM; `locations` has zeros behind `count`, and `period` is in minutes.
@@ -52,25 +37,38 @@ pub struct Parts {
 
 // ---- the originator
 
-// The originator that the three bytes from `at` name.
-pub fn originator_of(s: &[u8], at: usize) -> Origin
-    ensures { result ≡ originator_of (part s.now at 3) }
-{
-    if octets::stands_at(s, at, b"PEP") {
-        return Origin::Known(Originator::Pep);
+impl Originator {
+    const ALL: [Originator; 4] = [
+        Originator::Pep,
+        Originator::Eas,
+        Originator::Wxr,
+        Originator::Civ,
+    ];
+
+    // Its three bytes.
+    pub fn code(self) -> &'static [u8; 3]
+        ensures { result.now ≡ originator_bytes self }
+    {
+        match self {
+            Originator::Pep => b"PEP",
+            Originator::Eas => b"EAS",
+            Originator::Wxr => b"WXR",
+            Originator::Civ => b"CIV",
+        }
     }
-    if octets::stands_at(s, at, b"EAS") {
-        return Origin::Known(Originator::Eas);
-    }
-    if octets::stands_at(s, at, b"WXR") {
-        return Origin::Known(Originator::Wxr);
-    }
-    if octets::stands_at(s, at, b"CIV") {
-        return Origin::Known(Originator::Civ);
-    }
-    Origin::Unknown
 }
 
+// The originator that the three bytes from `at` name.
+pub fn originator_of(s: &[u8], at: usize) -> Option<Originator>
+    ensures { result ≡ originator_of (part s.now at 3) }
+{
+    Originator::ALL
+        .iter()
+        .find(|o| octets::stands_at(s, at, o.code()))
+        .copied()
+}
+
+// The number that the C call has for it; clauses name the definition `originator_number`.
 pub fn originator_number(o: Originator) -> u32
     ensures { result ≡ originator_number o }
 {
@@ -82,22 +80,16 @@ pub fn originator_number(o: Originator) -> u32
     }
 }
 
-pub fn originator_numbered(n: u32) -> Origin
+pub fn originator_numbered(n: u32) -> Option<Originator>
     ensures { result ≡ numbered n }
 {
-    if n == 1 {
-        return Origin::Known(Originator::Pep);
+    match n {
+        1 => Some(Originator::Pep),
+        2 => Some(Originator::Eas),
+        3 => Some(Originator::Wxr),
+        4 => Some(Originator::Civ),
+        _ => None,
     }
-    if n == 2 {
-        return Origin::Known(Originator::Eas);
-    }
-    if n == 3 {
-        return Origin::Known(Originator::Wxr);
-    }
-    if n == 4 {
-        return Origin::Known(Originator::Civ);
-    }
-    Origin::Unknown
 }
 
 // ---- which parts a header has
@@ -105,168 +97,68 @@ pub fn originator_numbered(n: u32) -> Origin
 pub fn event_ok(t: &[u8]) -> bool
     ensures { result ≡ event_ok t.now }
 {
-    if t.len() != 3 {
-        return false;
-    }
-    let mut i: usize = 0;
-    while i < t.len() {
-        if !octets::is_capital(t[i]) {
-            return false;
-        }
-        i += 1;
-    }
-    true
+    t.len() == 3 && t.iter().all(|b| octets::is_capital(*b))
 }
 
 pub fn is_station(b: u8) -> bool
     ensures { result ≡ is_station_byte b }
 {
-    if !octets::is_between(32, 126, b) {
-        return false;
-    }
-    if b == 45 {
-        return false;
-    }
-    b != 43
+    octets::is_between(32, 126, b) && b != b'-' && b != b'+'
 }
 
 pub fn station_ok(t: &[u8]) -> bool
     ensures { result ≡ station_ok t.now }
 {
-    if t.len() != 8 {
-        return false;
-    }
-    let mut i: usize = 0;
-    while i < t.len() {
-        if !is_station(t[i]) {
-            return false;
-        }
-        i += 1;
-    }
-    true
-}
-
-// Whether the first n are locations.
-fn all_locations(list: &[u32], n: usize) -> bool
-    requires { n ≤ length list.now }
-    ensures { result ≡ every is_location (take n list.now) }
-{
-    let mut i: usize = 0;
-    while i < n {
-        if 1000000 <= list[i] {
-            return false;
-        }
-        i += 1;
-    }
-    true
-}
-
-// Whether zeros stand behind the first n.
-fn zeros_behind(list: &[u32], n: usize) -> bool
-    ensures { result ≡ every is_zero (drop n list.now) }
-{
-    let mut i = n;
-    while i < list.len() {
-        if list[i] != 0 {
-            return false;
-        }
-        i += 1;
-    }
-    true
+    t.len() == 8 && t.iter().all(|b| is_station(*b))
 }
 
 pub fn locations_ok(list: &[u32], n: usize) -> bool
     ensures { result ≡ locations_ok n list.now }
 {
-    if n < 1 {
+    if n < 1 || 31 < n || list.len() != 31 {
         return false;
     }
-    if 31 < n {
-        return false;
-    }
-    if list.len() != 31 {
-        return false;
-    }
-    if !all_locations(list, n) {
-        return false;
-    }
-    zeros_behind(list, n)
+    list[..n].iter().all(|v| *v < 1000000) && list[n..].iter().all(|v| *v == 0)
 }
 
 pub fn is_period(m: u32) -> bool
     ensures { result ≡ is_period m }
 {
-    if m < 15 {
-        return false;
-    }
     if m <= 45 {
-        return m % 15 == 0;
+        15 <= m && m % 15 == 0
+    } else {
+        60 <= m && m <= 5970 && m % 30 == 0
     }
-    if m < 60 {
-        return false;
-    }
-    if 5970 < m {
-        return false;
-    }
-    m % 30 == 0
 }
 
+// Four numbers, as the C call and the definition `times_ok` have them.
 pub fn times_ok(period: u32, day: u32, hour: u32, minute: u32) -> bool
     ensures { result ≡ times_ok period day hour minute }
 {
-    if !is_period(period) {
+    if !is_period(period) || day < 1 || 366 < day {
         return false;
     }
-    if day < 1 {
-        return false;
-    }
-    if 366 < day {
-        return false;
-    }
-    if 23 < hour {
-        return false;
-    }
-    minute <= 59
+    hour <= 23 && minute <= 59
 }
 
 pub fn body_ok(b: Body) -> bool
     ensures { result ≡ body_ok b }
 {
-    let event = b.event;
-    if !event_ok(&event) {
-        return false;
-    }
-    let list = b.locations;
-    let n = b.count;
-    if !locations_ok(&list, n) {
-        return false;
-    }
-    times_ok(b.period, b.day, b.hour, b.minute)
+    event_ok(&b.event)
+        && locations_ok(&b.locations, b.count)
+        && times_ok(b.period, b.day, b.hour, b.minute)
 }
 
 // ---- parts as they are asked
 
-pub fn three_at(s: &[u8], at: usize) -> [u8; 3]
-    requires { at + 3 ≤ length s.now }
-    ensures { result ≡ part s.now at 3 }
+// The N bytes from `at`.
+pub fn bytes_at<const N: usize>(s: &[u8], at: usize) -> [u8; N]
+    requires { at + N ≤ length s.now }
+    ensures { result ≡ part s.now at N }
 {
-    [s[at], s[at + 1], s[at + 2]]
-}
-
-pub fn eight_at(s: &[u8], at: usize) -> [u8; 8]
-    requires { at + 8 ≤ length s.now }
-    ensures { result ≡ part s.now at 8 }
-{
-    [
-        s[at],
-        s[at + 1],
-        s[at + 2],
-        s[at + 3],
-        s[at + 4],
-        s[at + 5],
-        s[at + 6],
-        s[at + 7],
-    ]
+    let mut bytes = [0u8; N];
+    bytes.copy_from_slice(&s[at..at + N]);
+    bytes
 }
 
 pub fn no_body() -> Body
@@ -284,42 +176,22 @@ pub fn no_body() -> Body
     }
 }
 
-// Locations of six digits each, one behind the other.
-fn asked_locations(s: &[u8]) -> Locations
+// Locations of six digits each, one behind the other, with zeros behind them; the first that is none refuses them all.
+fn asked_locations(s: &[u8]) -> Option<[u32; 31]>
     ensures { result ≡ sixes_read s.now }
 {
+    let n = s.len() / 6;
+    if 186 < s.len() || s.len() != 6 * n {
+        return None;
+    }
     let mut list = [0u32; 31];
-    let len = s.len();
-    let n = len / 6;
-    if 186 < len {
-        return Locations {
-            ok: false,
-            list: [0u32; 31],
-        };
+    for k in 0..n {
+        list[k] = octets::number(s, 6 * k, 6)?;
     }
-    if len != 6 * n {
-        return Locations {
-            ok: false,
-            list: [0u32; 31],
-        };
-    }
-    let mut k: usize = 0;
-    while k < n {
-        let Num::Value(v) = octets::number(s, 6 * k, 6) else {
-            return Locations {
-                ok: false,
-                list: [0u32; 31],
-            };
-        };
-        list[k] = v;
-        k += 1;
-    }
-    Locations {
-        ok: true,
-        list: list,
-    }
+    Some(list)
 }
 
+// As many parameters as the C call has.
 fn asked_body(
     originator: u32,
     event: &[u8],
@@ -328,42 +200,32 @@ fn asked_body(
     day: u32,
     hour: u32,
     minute: u32,
-) -> Body
-    ensures { result ≡ asked_body originator event.now locations.now period day hour minute }
+) -> Option<Body>
+    ensures { unwrap_or result no_body ≡ asked_body originator event.now locations.now period day hour minute }
 {
-    let Origin::Known(o) = originator_numbered(originator) else {
-        return no_body();
-    };
-    if event.len() != 3 {
-        return no_body();
-    }
-    let asked = asked_locations(locations);
-    if !asked.ok {
-        return no_body();
-    }
-    let list = asked.list;
-    let named = three_at(event, 0);
-    Body {
-        originator: o,
-        event: named,
-        count: locations.len() / 6,
-        locations: list,
-        period: period,
-        day: day,
-        hour: hour,
-        minute: minute,
-    }
+    let originator = originator_numbered(originator)?;
+    let event = <[u8; 3]>::try_from(event).ok()?;
+    let count = locations.len() / 6;
+    let locations = asked_locations(locations)?;
+    Some(Body {
+        originator,
+        event,
+        count,
+        locations,
+        period,
+        day,
+        hour,
+        minute,
+    })
 }
 
 fn asked_station(t: &[u8]) -> [u8; 8]
     ensures { result ≡ asked_station t.now }
 {
-    if t.len() != 8 {
-        return [0u8; 8];
-    }
-    eight_at(t, 0)
+    <[u8; 8]>::try_from(t).unwrap_or([0u8; 8])
 }
 
+// As many parameters as the C call has.
 pub fn asked_parts(
     originator: u32,
     event: &[u8],
@@ -376,10 +238,9 @@ pub fn asked_parts(
 ) -> Parts
     ensures { result ≡ asked_parts originator event.now locations.now period day hour minute station.now }
 {
-    let body = asked_body(originator, event, locations, period, day, hour, minute);
-    let named = asked_station(station);
+    let asked = asked_body(originator, event, locations, period, day, hour, minute);
     Parts {
-        body: body,
-        station: named,
+        body: asked.unwrap_or(no_body()),
+        station: asked_station(station),
     }
 }

@@ -1,16 +1,16 @@
 -- Where a class of bytes goes on, a byte is, since each class that a loop scans lacks 0; and where a run of characters goes on, a character is.
 use Prim.Native.Nat.{ℕ, ◌+◌, ◌<◌, ◌≤◌}
-use mathlib.Core.Path.{◌≡◌, refl, sym, ap, ◌∙◌}
+use mathlib.Core.Path.{◌≡◌, refl, sym, ap, subst, ◌∙◌}
 use mathlib.Core.Bool.{Bool, true, false, ◌&&◌, ◌||◌, not, and-true, and-false, false≢true, or-false}
 use mathlib.Core.List.{List, [], ◌∷◌}
 use native.Mathlib.Omega.{arith}
 use native.Mathlib.Decide.{dec_lt}
-use lib.ListN.{length}
+use lib.ListN.{length, get_or-eq_default}
 use lib.Dec.{eqb, ltb, leb}
 use borrow.Author.Tests.{eqb-false, lt-ltb, le-ltb, ne_eqb, le-leb}
 use Rattle.octets.specs.Bytes.{pick, byte_at, stands, every, between, one_of, is_digit, is_capital, is_letter, is_space}
 use Rattle.octets.specs.Text.{bytes}
-use Rattle.octets.proofs.Scans.{inside, ScanningBy, by-moves, by-stops}
+use Rattle.octets.proofs.Scans.{inside, ScanningBy, by-starts, by-moves, by-stops}
 use Rattle.octets.proofs.Tests.{and_left, and_right, between_is, above-between, below-between}
 use Rattle.characters.specs.Utf8.{is_legal, encoded, width, scalar_at, width_at, is_single, through}
 use Rattle.characters.proofs.Forms.{stood}
@@ -19,8 +19,16 @@ use Rattle.characters.proofs.Places.{low-is, single-is, single-width, stands-for
 use Rattle.pieces.specs.Classes.{is_named, is_plain, figure_of, is_figure}
 use Rattle.pieces.specs.WorkingClasses.{is_run, is_comment_byte}
 use Rattle.pieces.specs.Pieces.{in_note, in_text, ref_at, char_at}
-use Rattle.pieces.specs.declared.Ref.TheVariants.{Scalar, Wrong}
+use Rattle.std.specs.Prelude.{Some, None}
 use Rattle.pieces.proofs.Words.{begins-not}
+
+-- a class that 0 has not, as a relation
+pub taken-in : (q : ℕ → Type 0) (s : List ℕ) (i b : ℕ) → (q 0 → ⊥) → b ≡ byte_at s i → q b → i < length s
+taken-in q s i b n e h = go (dec_lt i (length s))
+  where
+    go : Dec (i < length s) → i < length s
+    go (yes l) = l
+    go (no l) = let z : b ≡ 0 = e ∙ get_or-eq_default s 0 (omega arith) in absurd (n (subst q z h))
 
 pub space-in : (s : List ℕ) (i : ℕ) → is_space (byte_at s i) ≡ true → i < length s
 unfolding is_space one_of
@@ -30,9 +38,22 @@ pub named_in : (s : List ℕ) (i : ℕ) → is_named (byte_at s i) ≡ true → 
 unfolding is_named is_letter is_capital is_digit between every one_of
 named_in s i e = inside is_named s i refl e
 
-pub figure-in : (base : ℕ) (s : List ℕ) (i : ℕ) → base ≤ 16 → is_figure base (byte_at s i) ≡ true → i < length s
+-- 0 is of none of the classes
+pub no-space : true ≡ is_space 0 → ⊥
+unfolding is_space one_of
+no-space e = absurd (false≢true (sym e))
+
+pub no-name : true ≡ is_named 0 → ⊥
+unfolding is_named is_letter is_capital is_digit between every one_of
+no-name e = absurd (false≢true (sym e))
+
+pub no-run : true ≡ is_run 0 → ⊥
+unfolding is_run is_single is_legal one_of between every
+no-run e = absurd (false≢true (sym e))
+
+pub no-figure : (base : ℕ) → base ≤ 16 → true ≡ is_figure base 0 → ⊥
 unfolding is_figure figure_of is_digit between every
-figure-in base s i h e = inside (is_figure base) s i (le-ltb 16 base h) e
+no-figure base h e = absurd (false≢true (sym (e ∙ le-ltb 16 base h)))
 
 or_left : (a b : Bool) → (a || b) ≡ false → a ≡ false
 or_left true b h = h
@@ -200,7 +221,7 @@ module _ (s : List ℕ) (i : ℕ) where
   unfolding is_run is_single is_legal between every one_of
   run_in h = inside is_run s i refl h
 
-  pub char-run : is_run (byte_at s i) ≡ true → Scalar (byte_at s i) (i + 1) ≡ char_at s i
+  pub char-run : is_run (byte_at s i) ≡ true → Some (byte_at s i, i + 1) ≡ char_at s i
   unfolding char_at
   char-run h =
       let b = run-single h in
@@ -209,7 +230,7 @@ module _ (s : List ℕ) (i : ℕ) where
       let w : width (byte_at s i) ≡ 1 = ap width (sym e) ∙ sym (legal-steps s i (rw e (single-legal b))).is ∙ single-width s i b in
       rw (e, ne_eqb (byte_at s i) 38 (plain-no-reference (byte_at s i) p), p, w)
 
-  pub char-bracket : byte_at s i ≡ 93 → Scalar 93 (i + 1) ≡ char_at s i
+  pub char-bracket : byte_at s i ≡ 93 → Some (93, i + 1) ≡ char_at s i
   unfolding char_at is_plain is_single is_legal encoded between every one_of
   char-bracket h = let e = stands-for s i 93 refl h in rw e
 
@@ -217,17 +238,17 @@ module _ (s : List ℕ) (i : ℕ) where
   unfolding char_at is_single is_legal between every one_of
   char-ref h = let e = stands-for s i 38 refl h in rw e
 
-  pub char-low : byte_at s i < 128 → is_run (byte_at s i) ≡ false → (byte_at s i ≡ 93 → ⊥) → (byte_at s i ≡ 38 → ⊥) → Wrong ≡ char_at s i
+  pub char-low : byte_at s i < 128 → is_run (byte_at s i) ≡ false → (byte_at s i ≡ 93 → ⊥) → (byte_at s i ≡ 38 → ⊥) → None ≡ char_at s i
   unfolding char_at
   char-low l h n m =
       let d : scalar_at s i ≡ 38 → ⊥ = λ e. m (low_byte s i (omega arith) (omega arith) ∙ e) in
       rw (ne_eqb (scalar_at s i) 38 d, low-not-plain l h n)
 
-  pub char-none : scalar_at s i ≡ 0 → Wrong ≡ char_at s i
+  pub char-none : scalar_at s i ≡ 0 → None ≡ char_at s i
   unfolding char_at
   char-none e = rw (e, none-plain)
 
-  pub char-wide : 128 ≤ byte_at s i → 0 < scalar_at s i → Scalar (scalar_at s i) (i + width (scalar_at s i)) ≡ char_at s i
+  pub char-wide : 128 ≤ byte_at s i → 0 < scalar_at s i → Some (scalar_at s i, i + width (scalar_at s i)) ≡ char_at s i
   unfolding char_at
   char-wide h z =
       let l = wide-some s i h z in
@@ -236,11 +257,11 @@ module _ (s : List ℕ) (i : ℕ) where
 
 -- ---- a turn of a loop by characters, n bytes on; none where it ends
 
-stays : (b : Bool) (w : ℕ) → (b ≡ true → 1 ≤ w) → pick b w 0 ≡ 0 → b ≡ false
+pub stays : (b : Bool) (w : ℕ) → (b ≡ true → 1 ≤ w) → pick b w 0 ≡ 0 → b ≡ false
 stays true w f e = let l = f refl in absurd (omega arith)
 stays false w f e = refl
 
-goes : (b : Bool) (w : ℕ) → (pick b w 0 ≡ 0 → ⊥) → b ≡ true
+pub goes : (b : Bool) (w : ℕ) → (pick b w 0 ≡ 0 → ⊥) → b ≡ true
 goes true w f = refl
 goes false w f = absurd (f refl)
 
@@ -262,6 +283,10 @@ module _ (s : List ℕ) (p : ℕ → Bool) (from i n : ℕ) where
         let m = t.in-it in
         let w : n ≡ width_at s i = is ∙ ap (λ (b : Bool). pick b (width_at s i) 0) e in
         record { on = omega arith; in-it = omega arith; scans = rw w (by-moves (width_at s) p (length s) from i e (omega arith) l v) }
+
+-- a turn from anywhere stays inside
+pub turn-in : (s : List ℕ) (p : ℕ → Bool) (i n : ℕ) → ((j : ℕ) → p j ≡ true → Steps s j) → n ≡ pick (p i) (width_at s i) 0 → 0 < n → i + n ≤ length s
+turn-in s p i n steps is z = (turns s p i i n steps is (by-starts (width_at s) p (length s) i) (omega arith)).in-it
 
 -- ---- the classes, test by test
 

@@ -1,6 +1,6 @@
 -- Blocks of a run of text, and white space before them.
 --     still-run, line-run      what the test of a byte tells
---     one_on_lem, spaces-scan  the scan goes over a byte of a run, and over white space
+--     one_on_lem, past-scan    the scan goes over a byte of a run, and over bytes of a class of them
 --     runs-scan, runs-edge     and over blocks, and where they end
 use Prim.Native.Nat.{ℕ, zero, suc, ◌+◌, ◌≤◌, ◌<◌}
 use mathlib.Core.Path.{◌≡◌, refl, sym, ◌∙◌}
@@ -14,8 +14,8 @@ use borrow.Author.Tests.{ne_eqb, eqb-true}
 use lib.Dec.{eqb, ltb}
 use lib.ListN.{length}
 use Rattle.octets.specs.Bytes.{pick, byte_at, every, between, one_of, is_space}
-use Rattle.octets.specs.Scan.{scan, scan_by}
-use Rattle.octets.proofs.Scans.{ScanningBy, by-more, by-stop}
+use Rattle.octets.specs.Scan.{scan, scan_by, past}
+use Rattle.octets.proofs.Scans.{ScanningBy, by-more, by-stop, scan-ge}
 use Rattle.octets.proofs.Tests.{not-under, not_equal}
 use Rattle.characters.specs.Utf8.{is_legal, is_single, width_at}
 use Rattle.characters.proofs.Legals.{single-low, space-high}
@@ -50,7 +50,7 @@ line-run b p e n = go (eqb b 10) refl
 pub one_on_lem : (s : List ℕ) (from i : ℕ) → is_run (byte_at s i) ≡ true → ScanningBy (width_at s) (in_text s) (length s) from i → Turned s (in_text s) from i 1
 one_on_lem s from i h v = turns s (in_text s) from i 1 (text-steps s) (run-goes-on s i h) v (omega arith)
 
-space-run : (b : ℕ) → is_space b ≡ true → is_run b ≡ true
+pub space-run : (b : ℕ) → is_space b ≡ true → is_run b ≡ true
 unfolding is_run is_single is_legal one_of between every
 space-run b h = go (dec_lt b 32) (dec_lt 32 b)
   where
@@ -60,23 +60,31 @@ space-run b h = go (dec_lt b 32) (dec_lt 32 b)
     go (no l) (no m) = let e : b ≡ 32 = omega arith in rw e
 
 module _ (s : List ℕ) (from : ℕ) where
-  abbrev On : ℕ → Type 0
+  abbrev pub On : ℕ → Type 0
   On i = ScanningBy (width_at s) (in_text s) (length s) from i
 
-  pub spaces-scan : (n i : ℕ) → On i → On (scan (λ j. is_space (byte_at s j)) n i)
-  unfolding scan_by
-  spaces-scan zero i v = v
-  spaces-scan (suc n) i v = go (is_space (byte_at s i)) refl (spaces-scan n (i + 1))
-    where
-      go : (b : Bool) → is_space (byte_at s i) ≡ b → (On (i + 1) → On (scan (λ j. is_space (byte_at s j)) n (i + 1))) → On (scan (λ j. is_space (byte_at s j)) (suc n) i)
-      go true e f = rw (by-more (λ j. 1) (λ j. is_space (byte_at s j)) n i e) (f (one_on_lem s from i (space-run (byte_at s i) e) v).scans)
-      go false e f = rw (by-stop (λ j. 1) (λ j. is_space (byte_at s j)) (suc n) i e) v
+  module _ (q : ℕ → Bool) (runs : (b : ℕ) → q b ≡ true → is_run b ≡ true) where
+    pub past-scan : (n i : ℕ) → On i → On (scan (λ j. q (byte_at s j)) n i)
+    unfolding scan_by
+    past-scan zero i v = v
+    past-scan (suc n) i v = go (q (byte_at s i)) refl (past-scan n (i + 1))
+      where
+        go : (b : Bool) → q (byte_at s i) ≡ b → (On (i + 1) → On (scan (λ j. q (byte_at s j)) n (i + 1))) → On (scan (λ j. q (byte_at s j)) (suc n) i)
+        go true e f = rw (by-more (λ j. 1) (λ j. q (byte_at s j)) n i e) (f (one_on_lem s from i (runs (byte_at s i) e) v).scans)
+        go false e f = rw (by-stop (λ j. 1) (λ j. q (byte_at s j)) (suc n) i e) v
 
   pub runs-scan : (at n : ℕ) → Runs s at n → On at → On (at + n)
   runs-scan at zero w v = rw (add-zero at) v
   runs-scan at (suc n) w v =
       let u : at + suc n ≡ at + n + 1 = omega arith in
       rw u (one_on_lem s from (at + n) (w n (omega arith)) (runs-scan at n (λ j h. w j (omega (arith, h))) v)).scans
+
+-- blocks and then bytes, up to j
+pub stretch-scan : (s : List ℕ) (from i n j : ℕ) → Runs s i n → j ≡ past is_run s (i + n) → On s from i → On s from j
+stretch-scan s from i n j w e v = rw e (past-scan s from is_run (λ b q. q) (length s) (i + n) (runs-scan s from i n w v))
+
+pub stretch-on : (s : List ℕ) (i n j : ℕ) → j ≡ past is_run s (i + n) → i ≤ j
+stretch-on s i n j e = let g = scan-ge (λ k. is_run (byte_at s k)) (length s) (i + n) in omega (arith, g)
 
 pub runs-edge : (s : List ℕ) (at n : ℕ) → Runs s at n → at + n ≤ at ⊎ at + n ≤ length s
 runs-edge s at zero w = inl (omega arith)

@@ -1,27 +1,15 @@
 // The pieces of a message: names, comments, references, runs of text, and what stands next in an element.
 #![tactic(auto)]
 
-ghost use Rattle.std.specs.Prelude.{◌≡◌, true, ◌+◌, ◌≤◌, length};
+ghost use Rattle.std.specs.Prelude.{◌≡◌, ℕ, Bool, true, Option, None, ◌+◌, ◌≤◌, length};
 ghost use Rattle.octets.specs.Bytes.{pick, byte_at, part, is_space};
-ghost use Rattle.octets.specs.Scan.{past};
+ghost use Rattle.octets.specs.Scan.{past, scan_by};
 ghost use Rattle.characters.specs.Utf8.{width_at, through};
 ghost use Rattle.pieces.specs.Classes.{is_start, is_named, figure_of, is_figure};
 ghost use Rattle.pieces.specs.WorkingClasses.{is_run, is_comment_byte, Runs};
-ghost use Rattle.pieces.specs.Pieces.{plain_at, short, name_at, in_note, note_at, worded_at, numeral_from, number_at, ref_at, char_at, in_text, tag_at, piece_at};
-
-// Where something ends, or that it does not stand there.
-#[derive(Drop)]
-pub enum End {
-    At(usize),
-    No,
-}
-
-// What a reference or a character stands for, and where it ends.
-#[derive(Drop)]
-pub enum Ref {
-    Scalar(u32, usize),
-    Wrong,
-}
+ghost use Rattle.pieces.specs.Walk.{walk_at};
+ghost use Rattle.pieces.specs.WorkingSteps.{Forward, Follows, Tests, Inside, Widths};
+ghost use Rattle.pieces.specs.Pieces.{plain_at, short, name_at, in_note, note_at, entity, worded_at, numeral_from, number_at, ref_at, char_at, in_text, tag_at, piece_at};
 
 // A step of a walk: on to a place, done at one, or stuck.
 #[derive(Drop)]
@@ -29,6 +17,22 @@ pub enum Step {
     Go(usize),
     Stop(usize),
     Stuck,
+}
+
+// Goes by steps from `at` on: where they are done, or None where one is stuck. By places, and no iterator: each step tells where the next one begins.
+pub fn walk<F: Fn(usize) -> Step>(s: &[u8], at: usize, step: F) -> Option<usize>
+    requires callable { F.IsAlwaysCallable step }
+    requires forward { Forward s.now (F.post step) }
+    ensures { (f : ℕ → Step) → Follows (F.post step) f → result ≡ walk_at f s.now at }
+{
+    let mut i = at;
+    loop {
+        match step(i) {
+            Step::Go(j) => i = j,
+            Step::Stop(j) => return Some(j),
+            Step::Stuck => return None,
+        }
+    }
 }
 
 // What stands next in an element.
@@ -47,31 +51,22 @@ pub enum Piece {
 pub fn is_run(b: u8) -> bool
     ensures { result ≡ is_run b }
 {
-    if 93 < b {
+    if b']' < b {
         return b < 128;
     }
-    if 60 < b {
-        return b != 93;
+    if b'<' < b {
+        return b != b']';
     }
-    if 38 < b {
-        return b != 60;
+    if b'&' < b {
+        return b != b'<';
     }
-    if b == 38 {
-        return false;
-    }
-    if 31 < b {
-        return true;
-    }
-    octets::is_space(b)
+    b != b'&' && (31 < b || octets::is_space(b))
 }
 
 fn is_comment_byte(b: u8) -> bool
     ensures { result ≡ is_comment_byte b }
 {
-    if b == 45 {
-        return false;
-    }
-    characters::is_single(b)
+    b != b'-' && characters::is_single(b)
 }
 
 // Small letters first, which most bytes of a name are, and then downwards.
@@ -79,30 +74,52 @@ fn is_named(b: u8) -> bool
     ensures { result ≡ is_named b }
 {
     if 96 < b {
-        return b <= 122;
+        return b <= b'z';
     }
     if 64 < b {
-        if b <= 90 {
-            return true;
-        }
-        return b == 95;
+        return b <= b'Z' || b == b'_';
     }
     if 47 < b {
-        return b <= 57;
+        return b <= b'9';
     }
-    if b == 45 {
-        return true;
-    }
-    b == 46
+    b == b'-' || b == b'.'
 }
 
 fn is_start(b: u8) -> bool
     ensures { result ≡ is_start b }
 {
-    if octets::is_letter(b) {
-        return true;
+    octets::is_letter(b) || b == b'_'
+}
+
+// ---- how far a test holds
+
+// Where the bytes end that begin at `at` and for which `test` holds. By places, and no iterator: `at` may lie past the end, where a byte reads 0.
+fn past<F: Fn(u8) -> bool>(s: &[u8], at: usize, test: F) -> usize
+    requires callable { F.IsAlwaysCallable test }
+    requires not_past_end { F.post test 0 true → ⊥ }
+    ensures { (p : ℕ → Bool) → Tests (F.post test) p → result ≡ past p s.now at }
+{
+    let mut i = at;
+    while test(octets::byte(s, i)) {
+        i += 1;
     }
-    b == 95
+    i
+}
+
+// Goes on from `at` by what `width` answers, up to a place where that is 0. By places, and no iterator: how far each step goes is told by the step.
+pub fn through<F: Fn(usize) -> usize>(s: &[u8], at: usize, width: F) -> usize
+    requires callable { F.IsAlwaysCallable width }
+    requires inside { Inside s.now (F.post width) }
+    ensures { (w : ℕ → ℕ) (p : ℕ → Bool) → Widths (F.post width) w p → result ≡ scan_by w p (length s.now) at }
+{
+    let mut i = at;
+    loop {
+        let n = width(i);
+        if n == 0 {
+            return i;
+        }
+        i += n;
+    }
 }
 
 // ---- names
@@ -111,60 +128,44 @@ fn is_start(b: u8) -> bool
 pub fn spaces(s: &[u8], at: usize) -> usize
     ensures { result ≡ past is_space s.now at }
 {
-    let mut i = at;
-    while octets::is_space(octets::byte(s, i)) {
-        i += 1;
-    }
-    i
-}
-
-fn named(s: &[u8], at: usize) -> usize
-    ensures { result ≡ past is_named s.now at }
-{
-    let mut i = at;
-    while is_named(octets::byte(s, i)) {
-        i += 1;
-    }
-    i
+    past(s, at, |b| octets::is_space(b))
 }
 
 fn plain_name(s: &[u8], at: usize) -> usize
     ensures { result ≡ plain_at s.now at }
 {
     if is_start(octets::byte(s, at)) {
-        named(s, at)
+        past(s, at, |b| is_named(b))
     } else {
         at
     }
 }
 
-fn at_most_64(at: usize, e: usize) -> End
+fn at_most_64(at: usize, e: usize) -> Option<usize>
     requires { at ≤ e }
     ensures { result ≡ short at e }
 {
-    if e - at <= 64 { End::At(e) } else { End::No }
+    if e - at <= 64 { Some(e) } else { None }
 }
 
-pub fn name(s: &[u8], at: usize) -> End
+pub fn name(s: &[u8], at: usize) -> Option<usize>
     ensures { result ≡ name_at s.now at }
 {
     let a = plain_name(s, at);
     if a == at {
-        return End::No;
+        return None;
     }
-    if octets::byte(s, a) == 58 {
-        let b = plain_name(s, a + 1);
-        if b == a + 1 {
-            return End::No;
-        }
-        return at_most_64(at, b);
+    if octets::byte(s, a) != b':' {
+        return at_most_64(at, a);
     }
-    at_most_64(at, a)
+    let b = plain_name(s, a + 1);
+    if b == a + 1 { None } else { at_most_64(at, b) }
 }
 
 // ---- comments
 
-// How many bytes the character at i has, if the comment goes on there; else 0.
+// How many bytes the character at i has, if the comment goes on there; else 0. `in_text` is alike: one function for both would ask more, in its clauses, of the
+// test and the word that it is given than it has lines.
 fn in_note(s: &[u8], i: usize) -> usize
     ensures { result ≡ pick (in_note s.now i) (width_at s.now i) 0 }
 {
@@ -175,126 +176,92 @@ fn in_note(s: &[u8], i: usize) -> usize
     if 128 <= b {
         return characters::width_at(s, i);
     }
-    if b != 45 {
-        return 0;
-    }
-    if octets::stands_at(s, i, b"--") { 0 } else { 1 }
-}
-
-fn note_body(s: &[u8], at: usize) -> usize
-    ensures { result ≡ through (in_note s.now) s.now at }
-{
-    let mut i = at;
-    loop {
-        let n = in_note(s, i);
-        if n == 0 {
-            return i;
-        }
-        i += n;
+    if b != b'-' || octets::stands_at(s, i, b"--") {
+        0
+    } else {
+        1
     }
 }
 
-pub fn note(s: &[u8], at: usize) -> End
+pub fn note(s: &[u8], at: usize) -> Option<usize>
     ensures { result ≡ note_at s.now at }
 {
     if !octets::stands_at(s, at, b"<!--") {
-        return End::No;
+        return None;
     }
-    let e = note_body(s, at + 4);
+    let e = through(s, at + 4, |i| in_note(s, i));
     if octets::stands_at(s, e, b"-->") {
-        End::At(e + 3)
+        Some(e + 3)
     } else {
-        End::No
+        None
     }
 }
 
 // ---- references
 
-fn worded(s: &[u8], at: usize) -> Ref
-    ensures { result ≡ worded_at s.now at }
+// The character b, if the reference w to it stands at `at`, and where that ends.
+fn entity(s: &[u8], at: usize, w: &[u8], b: u8) -> Option<(u32, usize)>
+    requires { 1 ≤ length w.now }
+    ensures { result ≡ entity w.now b s.now at None }
 {
-    if octets::stands_at(s, at, b"&lt;") {
-        return Ref::Scalar(60, at + 4);
+    if octets::stands_at(s, at, w) {
+        Some((u32::from(b), at + w.len()))
+    } else {
+        None
     }
-    if octets::stands_at(s, at, b"&gt;") {
-        return Ref::Scalar(62, at + 4);
-    }
-    if octets::stands_at(s, at, b"&amp;") {
-        return Ref::Scalar(38, at + 5);
-    }
-    if octets::stands_at(s, at, b"&quot;") {
-        return Ref::Scalar(34, at + 6);
-    }
-    if octets::stands_at(s, at, b"&apos;") {
-        return Ref::Scalar(39, at + 6);
-    }
-    Ref::Wrong
 }
 
+fn worded(s: &[u8], at: usize) -> Option<(u32, usize)>
+    ensures { result ≡ worded_at s.now at }
+{
+    entity(s, at, b"&lt;", b'<')
+        .or_else(|| entity(s, at, b"&gt;", b'>'))
+        .or_else(|| entity(s, at, b"&amp;", b'&'))
+        .or_else(|| entity(s, at, b"&quot;", b'"'))
+        .or_else(|| entity(s, at, b"&apos;", b'\''))
+}
+
+// What a digit counts, in either letter case. 16 and no Option where it is none: the definition figure_of says so, which no base reaches.
 fn figure(b: u8) -> u8
     ensures { result ≡ figure_of b }
 {
-    if octets::is_digit(b) {
-        return b - 48;
+    match b {
+        b'0'..=b'9' => b - b'0',
+        b'A'..=b'F' => b - b'A' + 10,
+        b'a'..=b'f' => b - b'a' + 10,
+        _ => 16,
     }
-    if octets::is_between(65, 70, b) {
-        return b - 55;
-    }
-    if octets::is_between(97, 102, b) {
-        return b - 87;
-    }
-    16
 }
 
-fn figures(s: &[u8], at: usize, base: u8) -> usize
-    requires { base ≤ 16 }
-    ensures { result ≡ past (is_figure base) s.now at }
-{
-    let mut i = at;
-    while figure(octets::byte(s, i)) < base {
-        i += 1;
-    }
-    i
-}
-
-fn numeral(s: &[u8], at: usize, n: usize, base: u8) -> u32
-    requires n_in_bounds { at + n ≤ length s.now }
-    requires n_bound { n ≤ 7 }
+fn numeral(digits: &[u8], base: u8) -> u32
+    requires length_bound { length digits.now ≤ 7 }
     requires base_bound { base ≤ 16 }
-    ensures { result ≡ numeral_from base 0 (part s.now at n) }
+    ensures { result ≡ numeral_from base 0 digits.now }
 {
     let mut v: u32 = 0;
-    let mut k: usize = 0;
-    while k < n {
-        v = v * (base as u32) + (figure(s[at + k]) as u32);
-        k += 1;
+    for b in digits {
+        v = v * u32::from(base) + u32::from(figure(*b));
     }
     v
 }
 
-fn number_reference(s: &[u8], at: usize, base: u8) -> Ref
+fn number_reference(s: &[u8], at: usize, base: u8) -> Option<(u32, usize)>
     requires { base ≤ 16 }
     ensures { result ≡ number_at base s.now at }
 {
-    let e = figures(s, at, base);
-    if e == at {
-        return Ref::Wrong;
+    let e = past(s, at, |b| figure(b) < base);
+    if e == at || 7 < e - at || octets::byte(s, e) != b';' {
+        return None;
     }
-    if 7 < e - at {
-        return Ref::Wrong;
-    }
-    if octets::byte(s, e) != 59 {
-        return Ref::Wrong;
-    }
-    let v = numeral(s, at, e - at, base);
+    let v = numeral(&s[at..e], base);
     if characters::is_legal(v) {
-        Ref::Scalar(v, e + 1)
+        Some((v, e + 1))
     } else {
-        Ref::Wrong
+        None
     }
 }
 
-pub fn reference(s: &[u8], at: usize) -> Ref
+pub fn reference(s: &[u8], at: usize) -> Option<(u32, usize)>
     ensures { result ≡ ref_at s.now at }
 {
     if octets::stands_at(s, at, b"&#x") {
@@ -307,35 +274,30 @@ pub fn reference(s: &[u8], at: usize) -> Ref
 }
 
 // A character of text or of a value, of more than one byte.
-fn wide(s: &[u8], at: usize) -> Ref
+fn wide(s: &[u8], at: usize) -> Option<(u32, usize)>
     requires { 128 ≤ byte_at s.now at }
     ensures { result ≡ char_at s.now at }
 {
     let c = characters::scalar(s, at);
     if c == 0 {
-        return Ref::Wrong;
+        None
+    } else {
+        Some((c, at + characters::bytes_of(c)))
     }
-    Ref::Scalar(c, at + characters::bytes_of(c))
 }
 
 // A character of text or of a value.
-pub fn character(s: &[u8], at: usize) -> Ref
+pub fn character(s: &[u8], at: usize) -> Option<(u32, usize)>
     ensures { result ≡ char_at s.now at }
 {
     let b = octets::byte(s, at);
-    if is_run(b) {
-        return Ref::Scalar(b as u32, at + 1);
+    if is_run(b) || b == b']' {
+        return Some((u32::from(b), at + 1));
     }
-    if b == 38 {
+    if b == b'&' {
         return reference(s, at);
     }
-    if b == 93 {
-        return Ref::Scalar(93, at + 1);
-    }
-    if b < 128 {
-        return Ref::Wrong;
-    }
-    wide(s, at)
+    if b < 128 { None } else { wide(s, at) }
 }
 
 // ---- what an element holds
@@ -351,10 +313,7 @@ fn in_text(s: &[u8], i: usize) -> usize
     if 128 <= b {
         return characters::width_at(s, i);
     }
-    if b != 93 {
-        return 0;
-    }
-    if octets::stands_at(s, i, b"]]>") {
+    if b != b']' || octets::stands_at(s, i, b"]]>") {
         0
     } else {
         1
@@ -366,25 +325,23 @@ fn stirs(b: u8) -> u8
     ensures b_value { result ≡ 0 → is_run b ≡ true }
     ensures upper_bound { result ≤ 5 }
 {
-    let x = octets::under(b, 32)
-        + octets::under(126, b)
-        + octets::equals(b, 38)
-        + octets::equals(b, 60)
-        + octets::equals(b, 93);
-    if octets::equals(b, 10) == 0 { x } else { 0 }
+    let x = octets::under(b, b' ')
+        + octets::under(b'~', b)
+        + octets::equals(b, b'&')
+        + octets::equals(b, b'<')
+        + octets::equals(b, b']');
+    if octets::equals(b, b'\n') == 0 { x } else { 0 }
 }
 
 // Whether the sixteen bytes from `at` are of a run of text; some that are may be missed. The test of a byte has no branch, so that a compiler can make it for
-// all of them at once.
+// all of them at once. (The blocks of crate calm are not these: each of their bytes is told with the byte behind it.)
 fn is_block(s: &[u8], at: usize) -> bool
     requires { at + 16 ≤ length s.now }
     ensures { result ≡ true → Runs s.now at 16 }
 {
-    let mut n: u8 = 0;
-    let mut k: usize = 0;
-    while k < 16 {
-        n = n + stirs(s[at + k]);
-        k += 1;
+    let mut n = 0;
+    for k in 0..16 {
+        n += stirs(s[at + k]);
     }
     n == 0
 }
@@ -393,46 +350,27 @@ fn is_block(s: &[u8], at: usize) -> bool
 fn blocks(s: &[u8], at: usize) -> usize
     ensures { Runs s.now at result }
 {
-    let mut n: usize = 0;
-    loop {
-        if s.len() < 16 {
-            return n;
+    let whole = s.len().saturating_sub(at) / 16;
+    for k in 0..whole {
+        if !is_block(s, at + 16 * k) {
+            return 16 * k;
         }
-        if s.len() - 16 < at {
-            return n;
-        }
-        if s.len() - 16 - at < n {
-            return n;
-        }
-        if !is_block(s, at + n) {
-            return n;
-        }
-        n += 16;
     }
+    16 * whole
 }
 
-// How many bytes from `at` on are of a run of text: first by blocks, and then one by one.
-fn stretch(s: &[u8], at: usize) -> usize
-    ensures { Runs s.now at result }
-{
-    let mut n = blocks(s, at);
-    while is_run(octets::byte(s, at + n)) {
-        n += 1;
-    }
-    n
-}
-
-// White space before a tag is told by itself: nothing else stands between most elements.
+// White space before a tag is told by itself: nothing else stands between most elements. The loop goes by places, with no iterator: how far a turn goes is told
+// by what stands there.
 fn run(s: &[u8], at: usize) -> usize
     ensures { result ≡ through (in_text s.now) s.now at }
 {
     let j = spaces(s, at);
-    if octets::byte(s, j) == 60 {
+    if octets::byte(s, j) == b'<' {
         return j;
     }
     let mut i = j;
     loop {
-        i += stretch(s, i);
+        i = past(s, i + blocks(s, i), |b| is_run(b));
         let n = in_text(s, i);
         if n == 0 {
             return i;
@@ -445,34 +383,28 @@ fn next_tag(s: &[u8], at: usize) -> Piece
     requires { at + 1 ≤ length s.now }
     ensures { result ≡ tag_at s.now at }
 {
-    let b = octets::byte(s, at + 1);
-    if b == 47 {
-        return Piece::Close;
-    }
-    if b != 33 {
-        return Piece::Child;
-    }
-    let n = note(s, at);
-    match n {
-        End::At(j) => Piece::Note(j),
-        End::No => Piece::Bad,
+    match octets::byte(s, at + 1) {
+        b'/' => Piece::Close,
+        b'!' => match note(s, at) {
+            Some(j) => Piece::Note(j),
+            None => Piece::Bad,
+        },
+        _ => Piece::Child,
     }
 }
 
 pub fn next_piece(s: &[u8], at: usize) -> Piece
     ensures { result ≡ piece_at s.now at }
 {
-    let b = octets::byte(s, at);
-    if b == 60 {
-        return next_tag(s, at);
+    match octets::byte(s, at) {
+        b'<' => next_tag(s, at),
+        b'&' => match reference(s, at) {
+            Some((_, j)) => Piece::Text(j),
+            None => Piece::Bad,
+        },
+        _ => {
+            let e = run(s, at);
+            if e == at { Piece::Bad } else { Piece::Text(e) }
+        }
     }
-    if b == 38 {
-        let r = reference(s, at);
-        return match r {
-            Ref::Scalar(_, j) => Piece::Text(j),
-            Ref::Wrong => Piece::Bad,
-        };
-    }
-    let e = run(s, at);
-    if e == at { Piece::Bad } else { Piece::Text(e) }
 }

@@ -2,8 +2,7 @@
 use Rattle.std.specs.Prelude.{ℕ, suc, ◌+◌, Bool, true, false, ◌&&◌, ◌||◌, not, List, [], ◌∷◌, map, length, set, eqb, leb}
 use Rattle.octets.specs.Bytes.{pick, every, holds, between, same}
 use Rattle.octets.specs.Text.{bytes}
-use Rattle.octets.specs.declared.Num.{Num}
-use Rattle.octets.specs.declared.Num.TheVariants.{Value, Bad}
+use Rattle.std.specs.Prelude.{Option, Some, None, option_map}
 use Rattle.values.specs.Value.{value_at, small}
 use Rattle.values.specs.WorkingSteps.{is_printable, six_digits}
 use Rattle.reads.specs.declared.Leaf.{Leaf}
@@ -45,10 +44,10 @@ parameter_step s e name value =
     (record { leaf = rows_step s name value read_parameters e.leaf; fault = e.fault })
     (record { leaf = e.leaf; fault = true })
 
--- the place of the first row that a parameter of the name w and the value v is one of, counted from 0; how many rows there are where it is of none
-unfoldable pub parameter_row : List ReadParameter → List ℕ → List ℕ → ℕ
-parameter_row [] w v = 0
-parameter_row (r ∷ rs) w v = pick (is_of r w v) 0 (suc (parameter_row rs w v))
+-- the place of the first row that a parameter of the name w and the value v is one of, counted from 0; None where it is of none
+unfoldable pub parameter_row : List ReadParameter → List ℕ → List ℕ → Option ℕ
+parameter_row [] w v = None
+parameter_row (r ∷ rs) w v = pick (is_of r w v) (Some 0) (option_map suc (parameter_row rs w v))
 
 -- the first 31 in message order are placed, repeats kept
 unfoldable pub with_location : Locations → ℕ → Locations
@@ -56,9 +55,9 @@ with_location e v =
     pick (leb 31 e.count) e
     (record { count = e.count + 1; list = set e.list e.count v; bad = e.bad; fault = e.fault })
 
-abbrev pub location_of : Locations → Num → Locations
-location_of e (Value v) = with_location e v
-location_of e Bad = record { count = e.count; list = e.list; bad = true; fault = e.fault }
+abbrev pub location_of : Locations → Option ℕ → Locations
+location_of e (Some v) = with_location e v
+location_of e None = record { count = e.count; list = e.list; bad = true; fault = e.fault }
 
 -- a geocode: every one named SAME must be six digits
 unfoldable pub location_step : List ℕ → Locations → Leaf → Leaf → Locations

@@ -1,12 +1,12 @@
 // What document 01 reads in a message: the leaves and where they stand, what each element adds, and which elements are read where.
 #![tactic(auto)]
 
-ghost use Rattle.std.specs.Prelude.{◌≡◌, ◌||◌, ◌≤◌, length};
+ghost use Rattle.std.specs.Prelude.{◌≡◌, ◌≤◌, length};
 ghost use Rattle.reads.specs.WorkingLeaves.{no_leaf, marked, found, sound_of, only_of, pair_ok, no_info, nothing_read};
 ghost use Rattle.values.specs.Value.{value_at};
-ghost use Rattle.reads.specs.WorkingParameters.{read_parameters};
+ghost use Rattle.reads.specs.WorkingParameters.{broadcast_text, read_parameters, is_of};
 ghost use Rattle.reads.specs.Names.{local_at, alert_context, info_context, later_context, pair_context, resource_context, area_context, context_of};
-ghost use Rattle.reads.specs.WorkingSteps.{event_step, parameter_row, audio_of, audio_step, english, is_nothing};
+ghost use Rattle.reads.specs.WorkingSteps.{event_step, parameter_row, with_location, audio_of, uri_ok, audio_step, english, is_nothing};
 
 // A leaf: where the value of the first begins, how often it stands (0, 1, and 2 for more), and whether one of them holds an element.
 #[derive(Clone, Copy)]
@@ -42,6 +42,7 @@ pub struct Parameters {
 }
 
 // The geocodes named SAME: the first 31 that are six digits, zeros behind them; whether one is not; and whether a geocode is at fault.
+// A count beside an array: nothing here allocates, and `with_location` and `location_step` are said of the two.
 #[derive(Clone, Copy)]
 pub struct Locations {
     pub count: usize,
@@ -51,6 +52,7 @@ pub struct Locations {
 }
 
 // The audio choice of the resources: where its uri begins, and its number; and whether a resource is at fault.
+// 0 is none: the number is the one that both calls answer, as `header-small` and `canadian-small` say it, also in C.
 #[derive(Clone, Copy)]
 pub struct Audio {
     pub uri: usize,
@@ -103,6 +105,7 @@ pub enum Kept {
 }
 
 // What is read in an alert; the info that is kept; and whether the language of one is at fault.
+// Where none is kept, `info` has nothing in it: what is absent reads as empty there too, and `alert_of` has one info always.
 #[derive(Clone, Copy)]
 pub struct Alert {
     pub leaf: [Leaf; 7],
@@ -143,8 +146,8 @@ pub fn no_leaf(n: usize) -> Leaf
     ensures { result ≡ no_leaf n }
 {
     Leaf {
-        count: 0,
         at: n,
+        count: 0,
         holds: false,
     }
 }
@@ -152,26 +155,26 @@ pub fn no_leaf(n: usize) -> Leaf
 pub fn no_info(n: usize) -> Info
     ensures { result ≡ no_info n }
 {
-    let l = no_leaf(n);
+    let leaf = no_leaf(n);
     Info {
-        leaf: [l, l, l, l, l],
+        leaf: [leaf; 5],
         events: Events {
-            same: l,
+            same: leaf,
             fault: false,
         },
         parameters: Parameters {
-            leaf: [l; PARAMETERS],
+            leaf: [leaf; PARAMETERS],
             fault: false,
         },
         locations: Locations {
             count: 0,
-            list: [0u32; 31],
+            list: [0; 31],
             bad: false,
             fault: false,
         },
         audio: Audio {
-            number: 0,
             uri: n,
+            number: 0,
             fault: false,
         },
     }
@@ -180,17 +183,17 @@ pub fn no_info(n: usize) -> Info
 pub fn new_state(n: usize) -> State
     ensures { result ≡ nothing_read n }
 {
-    let l = no_leaf(n);
-    let i = no_info(n);
+    let leaf = no_leaf(n);
+    let info = no_info(n);
     State {
         alert: Alert {
-            leaf: [l, l, l, l, l, l, l],
+            leaf: [leaf; 7],
+            info,
             kept: Kept::Nothing,
-            info: i,
             fault: false,
         },
-        info: i,
-        pair: [l, l],
+        info,
+        pair: [leaf; 2],
     }
 }
 
@@ -201,63 +204,39 @@ pub fn find(l: Leaf, at: usize) -> Leaf
     ensures { result ≡ found l at }
 {
     if l.count == 0 {
-        return Leaf {
-            count: 1,
-            at: at,
-            holds: l.holds,
-        };
-    }
-    Leaf {
-        count: 2,
-        at: l.at,
-        holds: l.holds,
+        Leaf { at, count: 1, ..l }
+    } else {
+        Leaf { count: 2, ..l }
     }
 }
 
 pub fn mark(l: Leaf) -> Leaf
     ensures { result ≡ marked l }
 {
-    Leaf {
-        count: l.count,
-        at: l.at,
-        holds: true,
-    }
+    Leaf { holds: true, ..l }
 }
 
 // Neither repeated nor holding an element.
+#[tactic(auto, unfolding(crate::specs::WorkingLeaves::sound_of, octets::specs::Bytes::every))]
 pub fn is_sound(l: Leaf) -> bool
     ensures { result ≡ sound_of l }
 {
-    if 1 < l.count {
-        return false;
-    }
-    !l.holds
+    l.count <= 1 && !l.holds
 }
 
 // Exactly once, and holding no element.
+#[tactic(auto, unfolding(crate::specs::WorkingLeaves::only_of, octets::specs::Bytes::every))]
 pub fn is_only(l: Leaf) -> bool
     ensures { result ≡ only_of l }
 {
-    if l.count != 1 {
-        return false;
-    }
-    !l.holds
+    l.count == 1 && !l.holds
 }
 
-// valueName and value: each there, and sound.
+// valueName and value: each there, and sound, which is exactly once and holding no element.
 pub fn is_pair(name: Leaf, value: Leaf) -> bool
     ensures { result ≡ pair_ok name value }
 {
-    if name.count == 0 {
-        return false;
-    }
-    if value.count == 0 {
-        return false;
-    }
-    if !is_sound(name) {
-        return false;
-    }
-    is_sound(value)
+    is_only(name) && is_only(value)
 }
 
 // ---- names
@@ -267,94 +246,86 @@ pub fn local(s: &[u8], p: &[u8], from: usize, to: usize) -> usize
     requires { (from ≤ to) × (to ≤ length s.now) }
     ensures { result ≡ local_at s.now p.now from to }
 {
-    let n = p.len();
-    if to - from < n {
-        return to;
+    if s[from..to].starts_with(p) {
+        from + p.len()
+    } else {
+        to
     }
-    if octets::stands_at(s, from, p) {
-        return from + n;
-    }
-    to
 }
 
 pub fn alert_context(name: &[u8], kept: Kept) -> Context
     ensures { result ≡ alert_context kept name.now }
 {
-    let k = words::which(
+    match words::which(
         name,
         b"\x0a\x06\x04\x06\x07\x05\x0a\x04",
         b"identifiersendersentstatusmsgTypescopereferencesinfo",
-    );
-    if k < 7 {
-        return Context::AlertLeaf(k);
-    }
-    if 7 < k {
-        return Context::Skipped;
-    }
-    match kept {
-        Kept::Nothing => Context::Info,
-        Kept::First => Context::Info,
-        Kept::Selected => Context::Later,
+    ) {
+        Some(7) => match kept {
+            Kept::Nothing | Kept::First => Context::Info,
+            Kept::Selected => Context::Later,
+        },
+        Some(k) => Context::AlertLeaf(k),
+        None => Context::Skipped,
     }
 }
 
 pub fn info_context(name: &[u8]) -> Context
     ensures { result ≡ info_context name.now }
 {
-    let k = words::which(
+    match words::which(
         name,
         b"\x08\x09\x07\x0a\x0b\x0b\x09\x08\x04",
         b"languageeventCodeexpiressenderNamedescriptioninstructionparameterresourcearea",
-    );
-    match k {
-        0 => Context::InfoLeaf(0),
-        1 => Context::EventCode,
-        2..=5 => Context::InfoLeaf(k - 1),
-        6 => Context::Parameter,
-        7 => Context::Resource,
-        8 => Context::Area,
+    ) {
+        Some(0) => Context::InfoLeaf(0),
+        Some(1) => Context::EventCode,
+        Some(k @ 2..=5) => Context::InfoLeaf(k - 1),
+        Some(6) => Context::Parameter,
+        Some(7) => Context::Resource,
+        Some(8) => Context::Area,
         _ => Context::Skipped,
     }
 }
 
+#[tactic(auto, unfolding(crate::specs::Names::among, octets::specs::Text::bytes))]
 pub fn later_context(name: &[u8]) -> Context
     ensures { result ≡ later_context name.now }
 {
-    let k = words::which(name, b"\x08", b"language");
-    if k == 0 {
-        return Context::InfoLeaf(0);
+    if octets::equal(name, b"language") {
+        Context::InfoLeaf(0)
+    } else {
+        Context::Skipped
     }
-    Context::Skipped
 }
 
 pub fn pair_context(name: &[u8]) -> Context
     ensures { result ≡ pair_context name.now }
 {
-    let k = words::which(name, b"\x09\x05", b"valueNamevalue");
-    if k < 2 {
-        return Context::PairLeaf(k);
+    match words::which(name, b"\x09\x05", b"valueNamevalue") {
+        Some(k) => Context::PairLeaf(k),
+        None => Context::Skipped,
     }
-    Context::Skipped
 }
 
 pub fn resource_context(name: &[u8]) -> Context
     ensures { result ≡ resource_context name.now }
 {
-    let k = words::which(name, b"\x08\x03", b"mimeTypeuri");
-    if k < 2 {
-        return Context::PairLeaf(k);
+    match words::which(name, b"\x08\x03", b"mimeTypeuri") {
+        Some(k) => Context::PairLeaf(k),
+        None => Context::Skipped,
     }
-    Context::Skipped
 }
 
+#[tactic(auto, unfolding(crate::specs::Names::among, octets::specs::Text::bytes))]
 pub fn area_context(name: &[u8]) -> Context
     ensures { result ≡ area_context name.now }
 {
-    let k = words::which(name, b"\x07", b"geocode");
-    if k == 0 {
-        return Context::Geocode;
+    if octets::equal(name, b"geocode") {
+        Context::Geocode
+    } else {
+        Context::Skipped
     }
-    Context::Skipped
 }
 
 // The context inside the element in the context c whose name stands from `from` to `to`.
@@ -362,146 +333,126 @@ pub fn context_of(s: &[u8], p: &[u8], from: usize, to: usize, c: Context, kept: 
     requires { (from ≤ to) × (to ≤ length s.now) }
     ensures { result ≡ context_of s.now p.now from to c kept }
 {
-    let at = local(s, p, from, to);
-    let name = &s[at..to];
+    let name = &s[local(s, p, from, to)..to];
     match c {
         Context::Root => Context::Alert,
         Context::Alert => alert_context(name, kept),
         Context::Info => info_context(name),
         Context::Later => later_context(name),
-        Context::EventCode => pair_context(name),
-        Context::Parameter => pair_context(name),
-        Context::Geocode => pair_context(name),
+        Context::EventCode | Context::Parameter | Context::Geocode => pair_context(name),
         Context::Resource => resource_context(name),
         Context::Area => area_context(name),
-        Context::AlertLeaf(_) => Context::Skipped,
-        Context::InfoLeaf(_) => Context::Skipped,
-        Context::PairLeaf(_) => Context::Skipped,
-        Context::Skipped => Context::Skipped,
+        Context::AlertLeaf(_) | Context::InfoLeaf(_) | Context::PairLeaf(_) | Context::Skipped => {
+            Context::Skipped
+        }
     }
 }
 
-// ---- what an eventCode and a resource add, by their two leaves; which parameter one is
+// ---- what an eventCode, a geocode and a resource add, by their two leaves; which parameter one is
 
+#[tactic(auto, unfolding(crate::specs::WorkingSteps::event_step, octets::specs::Text::bytes))]
 pub fn event_step(s: &[u8], e: Events, name: Leaf, value: Leaf) -> Events
     ensures { result ≡ event_step s.now e name value }
 {
-    let same = e.same;
     if !is_pair(name, value) {
-        return Events {
-            same: same,
-            fault: true,
-        };
+        return Events { fault: true, ..e };
     }
     if values::equal(s, name.at, b"SAME") {
         return Events {
-            same: find(same, value.at),
-            fault: e.fault,
+            same: find(e.same, value.at),
+            ..e
         };
     }
     e
 }
 
-// The place of the parameter in the table of those that are read, by its name and its value; behind the table where it is none of them.
-pub fn parameter_row(s: &[u8], name: usize, value: usize) -> usize
+// The place of the parameter in the table of those that are read, by its name and its value.
+pub fn parameter_row(s: &[u8], name: usize, value: usize) -> Option<usize>
     ensures { result ≡ parameter_row read_parameters (value_at s.now name) (value_at s.now value) }
 {
-    let k = words::which_value(s, name, b"\x07\x07\x0e", b"EAS-ORGEASTextEAS-Must-Carry");
-    if k < BROADCAST_TEXT {
-        return k;
+    match words::which_value(s, name, b"\x07\x07\x0e", b"EAS-ORGEASTextEAS-Must-Carry") {
+        Some(k) => Some(k),
+        None if is_broadcast_text(s, name, value) => Some(BROADCAST_TEXT),
+        None => None,
     }
-    if !values::equal_any_case(s, name, b"layer:aea:2.0:broadcasttext") {
-        return PARAMETERS;
-    }
-    if values::is_empty(s, value) {
-        return PARAMETERS;
-    }
-    BROADCAST_TEXT
 }
 
-// The audio number of a mimeType, and 0 of any other.
+// The parameter whose name may have any letter case, and whose value may not be empty.
+fn is_broadcast_text(s: &[u8], name: usize, value: usize) -> bool
+    ensures { result ≡ is_of broadcast_text (value_at s.now name) (value_at s.now value) }
+{
+    values::equal_any_case(s, name, b"layer:aea:2.0:broadcasttext") && !values::is_empty(s, value)
+}
+
+impl Locations {
+    // One more behind those that are placed; with 31 of them, none.
+    #[tactic(auto, unfolding(crate::specs::WorkingSteps::with_location))]
+    pub fn place(&mut self, code: u32)
+        ensures { self.new ≡ with_location self.old code }
+    {
+        if self.count < self.list.len() {
+            self.list[self.count] = code;
+            self.count += 1;
+        }
+    }
+}
+
+// The audio number of a mimeType: 1 mp3, 2 wav, 3 streaming mp3; 0 of any other.
 pub fn audio_of(s: &[u8], at: usize) -> u32
     ensures { result ≡ audio_of s.now at }
 {
-    let k = words::which_value(
+    match words::which_value(
         s,
         at,
         b"\x17\x17\x21",
         b"audio/x-ipaws-audio-mp3audio/x-ipaws-audio-wavaudio/x-ipaws-streaming-audio-mp3",
-    );
-    if k < 3 {
-        return k as u32 + 1;
+    ) {
+        Some(k) => k as u32 + 1,
+        None => 0,
     }
-    0
 }
 
+#[tactic(auto, unfolding(crate::specs::WorkingSteps::audio_step))]
 pub fn audio_step(s: &[u8], e: Audio, mime: Leaf, uri: Leaf) -> Audio
     ensures { result ≡ audio_step s.now e mime uri }
 {
-    if !is_sound(mime) {
-        return Audio {
-            number: e.number,
-            uri: e.uri,
-            fault: true,
-        };
-    }
-    if !is_sound(uri) {
-        return Audio {
-            number: e.number,
-            uri: e.uri,
-            fault: true,
-        };
+    if !is_sound(mime) || !is_sound(uri) {
+        return Audio { fault: true, ..e };
     }
     if e.number != 0 {
         return e;
     }
     let number = audio_of(s, mime.at);
-    if number == 0 {
-        return e;
-    }
-    let long = values::printable_size(s, uri.at);
-    if long < 1 {
-        return e;
-    }
-    if 1024 < long {
+    if number == 0 || !is_uri(s, uri.at) {
         return e;
     }
     Audio {
-        number: number,
         uri: uri.at,
-        fault: e.fault,
+        number,
+        ..e
     }
+}
+
+// A uri: 1 to 1,024 characters, each printable.
+fn is_uri(s: &[u8], at: usize) -> bool
+    ensures { result ≡ uri_ok (value_at s.now at) }
+{
+    (1..=1024).contains(&values::printable_size(s, at))
 }
 
 // ---- infos
 
 // A language that is absent, empty or en-US in any letter case.
+#[tactic(auto, unfolding(crate::specs::WorkingSteps::english, octets::specs::Text::bytes))]
 pub fn is_english(s: &[u8], language: Leaf) -> bool
     ensures { result ≡ english s.now language }
 {
-    let at = language.at;
-    if values::is_empty(s, at) {
-        return true;
-    }
-    values::equal_any_case(s, at, b"en-us")
+    values::is_empty(s, language.at) || values::equal_any_case(s, language.at, b"en-us")
 }
 
 // No info is kept yet.
 pub fn is_nothing(k: Kept) -> bool
     ensures { result ≡ is_nothing k }
 {
-    match k {
-        Kept::Nothing => true,
-        Kept::First => false,
-        Kept::Selected => false,
-    }
-}
-
-pub fn either(a: bool, b: bool) -> bool
-    ensures { result ≡ (a || b) }
-{
-    if a {
-        return true;
-    }
-    b
+    matches!(k, Kept::Nothing)
 }

@@ -1,10 +1,11 @@
 -- A record is made field by field: what is put so far, and zeros behind it.
-use Prim.Native.Nat.{ℕ, suc, ◌+◌, ◌-◌, ◌≤◌}
+use Prim.Native.Nat.{ℕ, suc, ◌+◌, ◌-◌, ◌/◌, ◌%◌, ◌≤◌}
 use mathlib.Core.Path.{◌≡◌, refl, sym, ap, ap₂, ◌∙◌}
 use mathlib.Core.List.{List, [], ◌∷◌, ◌++◌, append_assoc, append-nil}
 use native.Mathlib.Omega.{arith}
 use lib.ListN.{length, take, drop, set, replicate, length-append, length-replicate, replicate-append-replicate}
 use lib.Seq.{sets, sets-eq, take_at, drop_at, drop-drop}
+use Rattle.std.specs.Int.{w32, to_be_bytes}
 use Rattle.octets.proofs.Parts.{drop-zeros}
 use Rattle.clock.specs.Stamp.{stamp_of}
 use Rattle.records.specs.Record.{sent_in, be2, dated, pad, be4, key_of, notice, withdrawal, aired}
@@ -37,6 +38,12 @@ pub laid : (n : ℕ) (v x : List ℕ) → length v ≤ n → x ≡ sets (replica
 laid n v x l put =
     let e : n - n ≡ 0 = omega arith in
     field_put [] (replicate n 0) x v 0 n n refl refl l (omega arith) put ∙ ap (λ (k : ℕ). pad n v ++ replicate k 0) e ∙ append-nil (pad n v)
+
+pub be4-is : (n : ℕ) → to_be_bytes w32 n ≡ be4 n
+be4-is n =
+    let a : n / 16777216 % 256 ≡ n / 256 / 256 / 256 % 256 = omega arith in
+    let b : n / 65536 % 256 ≡ n / 256 / 256 % 256 = omega arith in
+    λ i. a i ∷ b i ∷ n / 256 % 256 ∷ n % 256 ∷ []
 
 -- a new record: its kind, and zeros
 abbrev pub fresh : ℕ → List ℕ
@@ -79,9 +86,6 @@ aired-made g x l px =
     ∙ append_assoc (3 ∷ replicate 132 0) g (replicate 6 0)
 
 -- ---- a header with its year
-
-pub copy-made : (h x : List ℕ) → length h ≡ 245 → x ≡ sets (replicate 245 0) 0 h → x ≡ h
-copy-made h x l px = laid 245 h x (omega arith) px ∙ pad-whole 245 h l
 
 pub dated-made : (k h y x z : List ℕ) → length h ≡ 243 → y ≡ be2 (stamp_of (sent_in k)).year → x ≡ sets (replicate 245 0) 0 h → z ≡ sets x 243 y → z ≡ dated k h
 unfolding dated

@@ -1,13 +1,13 @@
 -- One record of the board: its fields, its three kinds, and the rules that it keeps. r is the bytes of a record, k a key (sent, sender and identifier, 132 bytes),
 -- h a header through the dash after JJJHHMM, zero-filled to 243 bytes, g a header with its year, 245 bytes.
-use Rattle.std.specs.Prelude.{ℕ, ◌+◌, ◌-◌, ◌*◌, ◌/◌, ◌%◌, Bool, false, List, [], ◌∷◌, ◌++◌, length, take, drop, get_or, replicate, eqb, leb, ltb}
+use Rattle.std.specs.Prelude.{ℕ, ◌+◌, ◌-◌, ◌*◌, ◌/◌, ◌%◌, Bool, false, Option, Some, None, List, [], ◌∷◌, ◌++◌, length, take, drop, get_or, replicate, eqb, leb, ltb}
 use Rattle.octets.specs.Bytes.{pick, every, holds, between, byte_at, part, same}
 use Rattle.clock.specs.Calendar.{year_days}
 use Rattle.clock.specs.Time.{span}
 use Rattle.clock.specs.Stamp.{stamp_of, stamped}
 use Rattle.parts.specs.Parts.{is_zero}
-use Rattle.header.specs.Body.{times_part, body_form, body_of, body_refusal, read_body_of}
-use Rattle.header.specs.declared.BodyRead.{BodyRead}
+use Rattle.parts.specs.declared.Body.{Body}
+use Rattle.header.specs.Body.{times_part, body_form, body_of}
 use Rattle.fields.specs.Fields.{identity_ok}
 use Rattle.fields.specs.References.{up_to}
 
@@ -98,9 +98,9 @@ key_ok k = every holds (key_tests k)
 unfoldable pub header_ok : List ℕ → Bool
 header_ok h = zero_filled body_form h
 
--- what is read in it: its parts, or 17
-unfoldable pub read_in : List ℕ → BodyRead
-read_in h = pick (zeros (drop (length (filled_in h)) h)) (read_body_of (filled_in h)) body_refusal
+-- what is read in it
+unfoldable pub body_in : List ℕ → Option Body
+body_in h = pick (header_ok h) (Some (body_of (filled_in h))) None
 
 -- its JJJHHMM, in `+TTTT-JJJHHMM-`
 unfoldable pub stamp_in : List ℕ → List ℕ

@@ -7,9 +7,8 @@ ghost use Rattle.clock.specs.Calendar.{year_days};
 ghost use Rattle.clock.specs.Time.{span};
 ghost use Rattle.clock.specs.Stamp.{stamp_of, stamped};
 ghost use Rattle.fields.specs.Fields.{identity_ok};
-ghost use Rattle.records.specs.Record.{sent_in, zeros, filled_in, zero_filled, key_ok, header_ok, read_in, stamp_in, notice_tests, withdrawal_tests, aired_tests, record_ok, pad, be4, key_of, notice, withdrawal, aired, year_in, be2, dated, carried, dated_ok};
+ghost use Rattle.records.specs.Record.{sent_in, zeros, filled_in, zero_filled, body_in, key_ok, header_ok, stamp_in, notice_tests, withdrawal_tests, aired_tests, record_ok, pad, key_of, notice, withdrawal, aired, year_in, be2, dated, carried, dated_ok};
 
-use header::BodyRead;
 use parts::Body;
 
 #[derive(Drop)]
@@ -41,7 +40,7 @@ impl Record {
 
     pub const CARRIED: usize = 245;
 
-    // Kinds.
+    // Kinds, as they stand in the first byte.
     pub const NOTICE: u8 = 1;
 
     pub const WITHDRAWAL: u8 = 2;
@@ -53,9 +52,9 @@ impl Record {
         requires { (length sender.now ≤ 64) × (length identifier.now ≤ 64) × (length header.now ≤ 243) }
         ensures { result.bytes ≡ notice (key_of sent sender.now identifier.now) (pad 243 header.now) }
     {
-        let mut b = keyed(Record::NOTICE, sent, sender, identifier);
-        octets::put_bytes(&mut b, Record::HEADER, header);
-        Record { bytes: b }
+        let mut bytes = keyed(Record::NOTICE, sent, sender, identifier);
+        octets::put_bytes(&mut bytes, Record::HEADER, header);
+        Record { bytes }
     }
 
     // A withdrawal names a message and has no header.
@@ -63,8 +62,8 @@ impl Record {
         requires { (length sender.now ≤ 64) × (length identifier.now ≤ 64) }
         ensures { result.bytes ≡ withdrawal (key_of sent sender.now identifier.now) }
     {
-        let b = keyed(Record::WITHDRAWAL, sent, sender, identifier);
-        Record { bytes: b }
+        let bytes = keyed(Record::WITHDRAWAL, sent, sender, identifier);
+        Record { bytes }
     }
 
     // An aired record has only a header with its year.
@@ -72,10 +71,10 @@ impl Record {
         requires { length header.now ≡ 245 }
         ensures { result.bytes ≡ aired header.now }
     {
-        let mut b = [0u8; Record::SIZE];
-        b[Record::KIND] = Record::AIRED;
-        octets::put_bytes(&mut b, Record::HEADER, header);
-        Record { bytes: b }
+        let mut bytes = [0u8; Record::SIZE];
+        bytes[Record::KIND] = Record::AIRED;
+        octets::put_bytes(&mut bytes, Record::HEADER, header);
+        Record { bytes }
     }
 }
 
@@ -84,22 +83,10 @@ pub fn withdrawal_of(key: &[u8]) -> Record
     requires { length key.now ≡ 132 }
     ensures { result.bytes ≡ withdrawal key.now }
 {
-    let mut b = [0u8; Record::SIZE];
-    b[Record::KIND] = Record::WITHDRAWAL;
-    octets::put_bytes(&mut b, Record::SENT, key);
-    Record { bytes: b }
-}
-
-// The four bytes of a time, highest first.
-fn big_endian(sent: u32) -> [u8; 4]
-    ensures { result ≡ be4 sent }
-{
-    [
-        (sent / 256 / 256 / 256 % 256) as u8,
-        (sent / 256 / 256 % 256) as u8,
-        (sent / 256 % 256) as u8,
-        (sent % 256) as u8,
-    ]
+    let mut bytes = [0u8; Record::SIZE];
+    bytes[Record::KIND] = Record::WITHDRAWAL;
+    octets::put_bytes(&mut bytes, Record::SENT, key);
+    Record { bytes }
 }
 
 // A record of this kind with a key, and zeros behind it.
@@ -107,10 +94,9 @@ fn keyed(kind: u8, sent: u32, sender: &[u8], identifier: &[u8]) -> [u8; Record::
     requires { (length sender.now ≤ 64) × (length identifier.now ≤ 64) }
     ensures { result ≡ (kind ∷ key_of sent sender.now identifier.now) ++ replicate 251 0 }
 {
-    let t = big_endian(sent);
     let mut b = [0u8; Record::SIZE];
     b[Record::KIND] = kind;
-    octets::put_bytes(&mut b, Record::SENT, &t);
+    octets::put_bytes(&mut b, Record::SENT, &sent.to_be_bytes());
     octets::put_bytes(&mut b, Record::SENDER, sender);
     octets::put_bytes(&mut b, Record::IDENTIFIER, identifier);
     b
@@ -124,28 +110,14 @@ const SPAN: u32 = 3155760000;
 pub fn are_zeros(f: &[u8]) -> bool
     ensures { result ≡ zeros f.now }
 {
-    let mut i: usize = 0;
-    while i < f.len() {
-        if f[i] != 0 {
-            return false;
-        }
-        i += 1;
-    }
-    true
+    f.iter().all(|b| *b == 0)
 }
 
 // How many bytes stand before the first zero byte.
 fn filled(f: &[u8]) -> usize
     ensures { result ≡ length (filled_in f.now) }
 {
-    let mut i: usize = 0;
-    while i < f.len() {
-        if f[i] == 0 {
-            return i;
-        }
-        i += 1;
-    }
-    i
+    f.iter().take_while(|b| **b != 0).count()
 }
 
 // Whether a field is a sender or an identifier, zero-filled.
@@ -153,23 +125,14 @@ fn is_name(f: &[u8]) -> bool
     ensures { result ≡ zero_filled identity_ok f.now }
 {
     let n = filled(f);
-    if !fields::is_identity(&f[0..n]) {
-        return false;
-    }
-    are_zeros(&f[n..])
-}
-
-fn wide(b: u8) -> u32
-    ensures { (result ≡ b) × (result ≤ 255) }
-{
-    b as u32
+    fields::is_identity(&f[..n]) && are_zeros(&f[n..])
 }
 
 fn sent_of(k: &[u8]) -> u32
     requires { 4 ≤ length k.now }
     ensures { result ≡ sent_in k.now }
 {
-    ((wide(k[0]) * 256 + wide(k[1])) * 256 + wide(k[2])) * 256 + wide(k[3])
+    u32::from_be_bytes([k[0], k[1], k[2], k[3]])
 }
 
 // Whether k is a sent, a sender and an identifier.
@@ -177,24 +140,21 @@ fn is_key(k: &[u8]) -> bool
     requires { length k.now ≡ 132 }
     ensures { result ≡ key_ok k.now }
 {
-    if SPAN <= sent_of(k) {
-        return false;
-    }
-    if !is_name(&k[Record::SENDER - Record::SENT..Record::IDENTIFIER - Record::SENT]) {
-        return false;
-    }
-    is_name(&k[Record::IDENTIFIER - Record::SENT..Record::HEADER - Record::SENT])
+    sent_of(k) < SPAN
+        && is_name(&k[Record::SENDER - Record::SENT..Record::IDENTIFIER - Record::SENT])
+        && is_name(&k[Record::IDENTIFIER - Record::SENT..Record::HEADER - Record::SENT])
 }
 
-// The header that a field is, zero-filled, or 17.
-fn header_in(h: &[u8]) -> BodyRead
-    ensures { result ≡ read_in h.now }
+// The header that a field is, zero-filled.
+fn header_in(h: &[u8]) -> Option<Body>
+    ensures { result ≡ body_in h.now }
 {
     let n = filled(h);
     if !are_zeros(&h[n..]) {
-        return header::refused_body();
+        return None;
     }
-    header::read_body(&h[0..n])
+    let read = header::read_body(&h[..n]);
+    (read.number == 0).then_some(read.body)
 }
 
 // Whether the day, hour and minute of a header are those of sent.
@@ -203,13 +163,7 @@ fn is_on(b: Body, sent: u32) -> bool
     ensures { result ≡ every holds (eqb b.day (stamp_of sent).day ∷ eqb b.hour (stamp_of sent).hour ∷ eqb b.minute (stamp_of sent).minute ∷ []) }
 {
     let on = clock::stamp_of(sent);
-    if b.day != on.day {
-        return false;
-    }
-    if b.hour != on.hour {
-        return false;
-    }
-    b.minute == on.minute
+    b.day == on.day && b.hour == on.hour && b.minute == on.minute
 }
 
 // Whether h is a header, zero-filled, whose JJJHHMM is that of sent.
@@ -217,12 +171,10 @@ fn is_header_of(h: &[u8], sent: u32) -> bool
     requires { sent < span }
     ensures { result ≡ every holds (header_ok h.now ∷ same (stamp_in h.now) (stamped sent) ∷ []) }
 {
-    let read = header_in(h);
-    if read.number != 0 {
-        return false;
+    match header_in(h) {
+        Some(body) => is_on(body, sent),
+        None => false,
     }
-    let body = read.body;
-    is_on(body, sent)
 }
 
 fn is_notice(r: &[u8]) -> bool
@@ -230,26 +182,18 @@ fn is_notice(r: &[u8]) -> bool
     ensures { result ≡ every holds (notice_tests r.now) }
 {
     let k = &r[Record::SENT..Record::HEADER];
-    if !is_key(k) {
-        return false;
-    }
-    if !is_header_of(&r[Record::HEADER..Record::YEAR], sent_of(k)) {
-        return false;
-    }
-    are_zeros(&r[Record::YEAR..Record::SIZE])
+    is_key(k)
+        && is_header_of(&r[Record::HEADER..Record::YEAR], sent_of(k))
+        && are_zeros(&r[Record::YEAR..Record::SIZE])
 }
 
 fn is_withdrawal(r: &[u8]) -> bool
     requires { length r.now ≡ 384 }
     ensures { result ≡ every holds (withdrawal_tests r.now) }
 {
-    if !is_key(&r[Record::SENT..Record::HEADER]) {
-        return false;
-    }
-    if !are_zeros(&r[Record::HEADER..Record::YEAR]) {
-        return false;
-    }
-    are_zeros(&r[Record::YEAR..Record::SIZE])
+    is_key(&r[Record::SENT..Record::HEADER])
+        && are_zeros(&r[Record::HEADER..Record::YEAR])
+        && are_zeros(&r[Record::YEAR..Record::SIZE])
 }
 
 // ---- a header with its year
@@ -261,15 +205,15 @@ fn utc_year(sent: u32) -> u32
     if SPAN <= sent {
         return 2099;
     }
-    let on = clock::stamp_of(sent);
-    on.year
+    clock::stamp_of(sent).year
 }
 
 // The two bytes of a year, high byte first.
 fn two_bytes(year: u32) -> [u8; 2]
     ensures { result ≡ be2 year }
 {
-    [(year / 256 % 256) as u8, (year % 256) as u8]
+    let [_, _, high, low] = year.to_be_bytes();
+    [high, low]
 }
 
 // The header h of a message with the key k, with the year of its sent.
@@ -284,15 +228,6 @@ fn with_year(k: &[u8], h: &[u8]) -> [u8; Record::CARRIED]
     g
 }
 
-fn copied(h: &[u8]) -> [u8; Record::CARRIED]
-    requires { length h.now ≡ 245 }
-    ensures { result ≡ h.now }
-{
-    let mut g = [0u8; Record::CARRIED];
-    octets::put_bytes(&mut g, 0, h);
-    g
-}
-
 // The header with its year that a notice or an aired record carries.
 pub fn carried_by(r: &[u8]) -> [u8; Record::CARRIED]
     requires { length r.now ≡ 384 }
@@ -304,7 +239,9 @@ pub fn carried_by(r: &[u8]) -> [u8; Record::CARRIED]
             &r[Record::HEADER..Record::YEAR],
         );
     }
-    copied(&r[Record::HEADER..Record::ZEROS])
+    let mut g = [0u8; Record::CARRIED];
+    g.copy_from_slice(&r[Record::HEADER..Record::ZEROS]);
+    g
 }
 
 // The year in a header with its year.
@@ -312,17 +249,14 @@ fn year_in(g: &[u8]) -> u32
     requires { length g.now ≡ 245 }
     ensures { result ≡ year_in g.now }
 {
-    wide(g[Record::FRONT]) * 256 + wide(g[Record::FRONT + 1])
+    u32::from(u16::from_be_bytes([g[Record::FRONT], g[Record::FRONT + 1]]))
 }
 
 // Whether a year has a day.
 fn has_day(year: u32, day: u32) -> bool
     ensures { result ≡ leb day (year_days year) }
 {
-    if clock::is_leap(year) {
-        return day <= 366;
-    }
-    day <= 365
+    day <= if clock::is_leap(year) { 366 } else { 365 }
 }
 
 // Whether g is a header, zero-filled, with a year of 2000 to 2099 that has its day.
@@ -330,50 +264,31 @@ fn is_dated(g: &[u8]) -> bool
     requires { length g.now ≡ 245 }
     ensures { result ≡ dated_ok g.now }
 {
-    let read = header_in(&g[0..Record::FRONT]);
-    if read.number != 0 {
-        return false;
-    }
     let year = year_in(g);
-    if year < 2000 {
-        return false;
+    match header_in(&g[..Record::FRONT]) {
+        Some(body) => (2000..=2099).contains(&year) && has_day(year, body.day),
+        None => false,
     }
-    if 2099 < year {
-        return false;
-    }
-    let body = read.body;
-    has_day(year, body.day)
 }
 
 fn is_aired(r: &[u8]) -> bool
     requires { length r.now ≡ 384 }
     ensures { result ≡ every holds (aired_tests r.now) }
 {
-    if !are_zeros(&r[Record::SENT..Record::HEADER]) {
-        return false;
-    }
-    if !is_dated(&r[Record::HEADER..Record::ZEROS]) {
-        return false;
-    }
-    are_zeros(&r[Record::ZEROS..Record::SIZE])
+    are_zeros(&r[Record::SENT..Record::HEADER])
+        && is_dated(&r[Record::HEADER..Record::ZEROS])
+        && are_zeros(&r[Record::ZEROS..Record::SIZE])
 }
 
 // Whether r is a record.
 pub fn is_record(r: &[u8]) -> bool
     ensures { result ≡ record_ok r.now }
 {
-    if r.len() != Record::SIZE {
-        return false;
-    }
-    let kind = r[Record::KIND];
-    if kind == Record::NOTICE {
-        return is_notice(r);
-    }
-    if kind == Record::WITHDRAWAL {
-        return is_withdrawal(r);
-    }
-    if kind == Record::AIRED {
-        return is_aired(r);
-    }
-    false
+    r.len() == Record::SIZE
+        && match r[Record::KIND] {
+            Record::NOTICE => is_notice(r),
+            Record::WITHDRAWAL => is_withdrawal(r),
+            Record::AIRED => is_aired(r),
+            _ => false,
+        }
 }

@@ -4,12 +4,13 @@ use mathlib.Core.List.{List, []}
 use mathlib.Core.Path.{◌≡◌, sym, ap, ◌∙◌}
 use native.Mathlib.Omega.{arith}
 use borrow.Author.Tests.{lt-ltb, le-ltb}
-use lib.ListN.{length, take}
+use lib.ListN.{length, take, replicate}
 use lib.Seq.{sets, sets-eq, length-sets, take_at}
 use Rattle.outputs.specs.Outputs.{text_answer_of}
 use Rattle.outputs.specs.declared.TextAudio.{TextAudio}
 use Rattle.convert.specs.Convert.{header_answer_of}
 use Rattle.convert.specs.declared.Headed.{Headed}
+use Rattle.report.proofs.Fits.{both-fit}
 use Rattle.report.specs.Lines.{lines_of}
 use Rattle.report.specs.Program.{BothOutcomes, bench_of, printed, program_of}
 
@@ -23,6 +24,20 @@ pub front-put : (d v : List ℕ) {x : List ℕ} {n : ℕ} → length v ≤ lengt
 front-put d v {x} {n} fits long put =
     let is : take n x ≡ v = ap (take n) (put ∙ sets-eq v d 0 (omega arith)) ∙ take_at v _ n (sym long) in
     record { inside = omega (arith, ap length put, length-sets d 0 v); long = long ∙ sym (ap length is); is = is }
+
+module _ (message : List ℕ) where
+  pub header-front : (r : Headed) {x : List ℕ} → r ≡ header_answer_of (bench_of message).headed → x ≡ sets (replicate 252 0) 0 (bench_of message).headed.given.header → Front (bench_of message).headed.given.header x r.header
+  unfolding header_answer_of
+  header-front r e p = front-put (replicate 252 0) _ (both-fit message).header (ap (λ (r : Headed). r.header) e) p
+
+  module _ (a : TextAudio) {x : List ℕ} (e : a ≡ text_answer_of (bench_of message).worded) where
+    pub uri-front : x ≡ sets (replicate 1024 0) 0 (bench_of message).worded.given.uri → Front (bench_of message).worded.given.uri x a.uri
+    unfolding text_answer_of
+    uri-front p = front-put (replicate 1024 0) _ (both-fit message).uri (ap (λ (a : TextAudio). a.uri) e) p
+
+    pub text-front : x ≡ sets (replicate 7200 0) 0 (bench_of message).worded.given.text → Front (bench_of message).worded.given.text x a.text
+    unfolding text_answer_of
+    text-front p = front-put (replicate 7200 0) _ (both-fit message).text (ap (λ (a : TextAudio). a.text) e) p
 
 -- the lines of what both calls answer and put
 pub lines-printed : (o : BothOutcomes) (r : Headed) (a : TextAudio) {header uri text : List ℕ} → r ≡ header_answer_of o.headed → a ≡ text_answer_of o.worded →

@@ -1,132 +1,117 @@
-// The lines that the program prints for a message. Each writer says where what it has put ends.
+// The lines that the program prints for a message. They are bytes and have no Display: each is promised (`lines_of`), and nothing is allocated.
 #![tactic(auto)]
 
 ghost use Rattle.std.specs.Prelude.{◌≡◌, ◌+◌, ◌≤◌, length};
 ghost use Rattle.std.proofs.lemmas.List.Edits.{sets};
+ghost use Rattle.sentence.specs.WorkingWriter.{Wrote};
 ghost use Rattle.report.specs.Lines.{decimal, or_none, kind_then_uri, audio_words, number_line, value_line, audio_line, carry_line, alert_lines, lines_of};
 ghost use Rattle.report.specs.Program.{program_of};
+
+use sentence::Writer;
 
 // The room that all lines fit.
 const ROOM: usize = 8704;
 
 // ---- words
 
-fn put_decimal(out: &mut [u8], at: usize, v: u32) -> usize
-    requires { at + length (decimal v) ≤ length out.old }
-    ensures value { result ≡ at + length (decimal v) }
-    ensures out_after { out.new ≡ sets out.old at (decimal v) }
+fn put_decimal(writer: &mut Writer<'_>, v: u32)
+    requires { writer.old.at + length (decimal v) ≤ length writer.old.out.now }
+    ensures { Wrote writer.old writer.new (decimal v) }
 {
     if v < 10 {
-        octets::put_number(out, at, 1, v);
-        return at + 1;
+        writer.put_number(1, v);
+    } else {
+        writer.put_number(2, v);
     }
-    octets::put_number(out, at, 2, v);
-    at + 2
 }
 
-fn put_or_none(out: &mut [u8], at: usize, v: &[u8]) -> usize
-    requires { at + length (or_none v.now) ≤ length out.old }
-    ensures value { result ≡ at + length (or_none v.now) }
-    ensures out_after { out.new ≡ sets out.old at (or_none v.now) }
+fn or_none(v: &[u8]) -> &[u8]
+    ensures { result.now ≡ or_none v.now }
 {
-    if v.len() == 0 {
-        return sentence::put(out, at, b"none");
-    }
-    sentence::put(out, at, v)
+    if v.is_empty() { b"none" } else { v }
 }
 
-fn put_spaced(out: &mut [u8], at: usize, kind: &[u8], uri: &[u8]) -> usize
-    requires { at + length (kind_then_uri kind.now uri.now) ≤ length out.old }
-    ensures value { result ≡ at + length (kind_then_uri kind.now uri.now) }
-    ensures out_after { out.new ≡ sets out.old at (kind_then_uri kind.now uri.now) }
+fn put_spaced(writer: &mut Writer<'_>, kind: &[u8], uri: &[u8])
+    requires { writer.old.at + length (kind_then_uri kind.now uri.now) ≤ length writer.old.out.now }
+    ensures { Wrote writer.old writer.new (kind_then_uri kind.now uri.now) }
 {
-    let a = sentence::put(out, at, kind);
-    let b = sentence::put(out, a, b" ");
-    sentence::put(out, b, uri)
+    writer.put(kind);
+    writer.put(b" ");
+    writer.put(uri);
 }
 
-fn put_audio_words(out: &mut [u8], at: usize, audio: u32, uri: &[u8]) -> usize
-    requires { at + length (audio_words audio uri.now) ≤ length out.old }
-    ensures value { result ≡ at + length (audio_words audio uri.now) }
-    ensures out_after { out.new ≡ sets out.old at (audio_words audio uri.now) }
+fn put_audio_words(writer: &mut Writer<'_>, audio: u32, uri: &[u8])
+    requires { writer.old.at + length (audio_words audio uri.now) ≤ length writer.old.out.now }
+    ensures { Wrote writer.old writer.new (audio_words audio uri.now) }
 {
-    if audio == 1 {
-        return put_spaced(out, at, b"mp3", uri);
+    match audio {
+        1 => put_spaced(writer, b"mp3", uri),
+        2 => put_spaced(writer, b"wav", uri),
+        3 => put_spaced(writer, b"stream", uri),
+        _ => writer.put(b"none"),
     }
-    if audio == 2 {
-        return put_spaced(out, at, b"wav", uri);
-    }
-    if audio == 3 {
-        return put_spaced(out, at, b"stream", uri);
-    }
-    sentence::put(out, at, b"none")
 }
 
 // ---- lines
 
-fn put_number(out: &mut [u8], at: usize, number: u32, field: u32) -> usize
-    requires { at + length (number_line number field) ≤ length out.old }
-    ensures value { result ≡ at + length (number_line number field) }
-    ensures out_after { out.new ≡ sets out.old at (number_line number field) }
+fn put_number(writer: &mut Writer<'_>, number: u32, field: u32)
+    requires { writer.old.at + length (number_line number field) ≤ length writer.old.out.now }
+    ensures { Wrote writer.old writer.new (number_line number field) }
 {
-    let a = sentence::put(out, at, b"number ");
-    let b = put_decimal(out, a, number);
-    let c = sentence::put(out, b, b" field ");
-    let d = put_decimal(out, c, field);
-    sentence::put(out, d, b"\n")
+    writer.put(b"number ");
+    put_decimal(writer, number);
+    writer.put(b" field ");
+    put_decimal(writer, field);
+    writer.put(b"\n");
 }
 
-fn put_value(out: &mut [u8], at: usize, name: &[u8], v: &[u8]) -> usize
-    requires { at + length (value_line name.now v.now) ≤ length out.old }
-    ensures value { result ≡ at + length (value_line name.now v.now) }
-    ensures out_after { out.new ≡ sets out.old at (value_line name.now v.now) }
+fn put_value(writer: &mut Writer<'_>, name: &[u8], v: &[u8])
+    requires { writer.old.at + length (value_line name.now v.now) ≤ length writer.old.out.now }
+    ensures { Wrote writer.old writer.new (value_line name.now v.now) }
 {
-    let a = sentence::put(out, at, name);
-    let b = put_or_none(out, a, v);
-    sentence::put(out, b, b"\n")
+    writer.put(name);
+    writer.put(or_none(v));
+    writer.put(b"\n");
 }
 
-fn put_audio(out: &mut [u8], at: usize, audio: u32, uri: &[u8]) -> usize
-    requires { at + length (audio_line audio uri.now) ≤ length out.old }
-    ensures value { result ≡ at + length (audio_line audio uri.now) }
-    ensures out_after { out.new ≡ sets out.old at (audio_line audio uri.now) }
+fn put_audio(writer: &mut Writer<'_>, audio: u32, uri: &[u8])
+    requires { writer.old.at + length (audio_line audio uri.now) ≤ length writer.old.out.now }
+    ensures { Wrote writer.old writer.new (audio_line audio uri.now) }
 {
-    let a = sentence::put(out, at, b"audio ");
-    let b = put_audio_words(out, a, audio, uri);
-    sentence::put(out, b, b"\n")
+    writer.put(b"audio ");
+    put_audio_words(writer, audio, uri);
+    writer.put(b"\n");
 }
 
-fn put_carry(out: &mut [u8], at: usize, carry: bool) -> usize
-    requires { at + length (carry_line carry) ≤ length out.old }
-    ensures value { result ≡ at + length (carry_line carry) }
-    ensures out_after { out.new ≡ sets out.old at (carry_line carry) }
+fn put_carry(writer: &mut Writer<'_>, carry: bool)
+    requires { writer.old.at + length (carry_line carry) ≤ length writer.old.out.now }
+    ensures { Wrote writer.old writer.new (carry_line carry) }
 {
     if carry {
-        return sentence::put(out, at, b"carry yes\n");
+        writer.put(b"carry yes\n");
+    } else {
+        writer.put(b"carry no\n");
     }
-    sentence::put(out, at, b"carry no\n")
 }
 
 fn put_alert(
-    out: &mut [u8],
-    at: usize,
+    writer: &mut Writer<'_>,
     header: &[u8],
     audio: u32,
     uri: &[u8],
     carry: bool,
     text: &[u8],
-) -> usize
-    requires { at + length (alert_lines header.now audio uri.now carry text.now) ≤ length out.old }
-    ensures value { result ≡ at + length (alert_lines header.now audio uri.now carry text.now) }
-    ensures out_after { out.new ≡ sets out.old at (alert_lines header.now audio uri.now carry text.now) }
+)
+    requires { writer.old.at + length (alert_lines header.now audio uri.now carry text.now) ≤ length writer.old.out.now }
+    ensures { Wrote writer.old writer.new (alert_lines header.now audio uri.now carry text.now) }
 {
-    let a = put_value(out, at, b"header ", header);
-    let b = put_audio(out, a, audio, uri);
-    let c = put_carry(out, b, carry);
-    put_value(out, c, b"text ", text)
+    put_value(writer, b"header ", header);
+    put_audio(writer, audio, uri);
+    put_carry(writer, carry);
+    put_value(writer, b"text ", text);
 }
 
-// Puts the lines at the start of `out`, and says how long they are.
+// Puts the lines at the start of `out`, and says how long they are. The answers of both calls come one by one: the clauses name each.
 pub fn put_lines(
     out: &mut [u8],
     number: u32,
@@ -141,11 +126,13 @@ pub fn put_lines(
     ensures value { result ≡ length (lines_of number field header.now audio uri.now carry text.now) }
     ensures out_after { out.new ≡ sets out.old 0 (lines_of number field header.now audio uri.now carry text.now) }
 {
-    let a = put_number(out, 0, number, field);
+    let mut writer = Writer { out, at: 0 };
+    put_number(&mut writer, number, field);
     if number != 0 {
-        return a;
+        return writer.at;
     }
-    put_alert(out, a, header, audio, uri, carry, text)
+    put_alert(&mut writer, header, audio, uri, carry, text);
+    writer.at
 }
 
 // Converts a message by both calls, and puts the lines that the program prints at the start of `out`, or nothing where it is shorter than ROOM.
@@ -161,17 +148,14 @@ pub fn program(message: &[u8], out: &mut [u8]) -> usize
     let mut uri = [0u8; 1024];
     let headed = convert::header(message, b"BENCH/01", &mut header);
     let worded = convert::text(message, b"BENCH/01", &mut text, &mut uri);
-    let h = headed.header;
-    let u = worded.uri;
-    let t = worded.text;
     put_lines(
         out,
         headed.number,
         headed.field,
-        &header[..h],
+        &header[..headed.header],
         worded.audio,
-        &uri[..u],
+        &uri[..worded.uri],
         headed.carry,
-        &text[..t],
+        &text[..worded.text],
     )
 }

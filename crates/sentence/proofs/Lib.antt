@@ -1,4 +1,4 @@
 pub mod Lengths
 pub mod Plains
-pub mod Puts
+pub mod Writers
 pub mod Examples

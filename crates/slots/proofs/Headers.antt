@@ -5,8 +5,8 @@ use mathlib.Core.Path.{◌≡◌, refl, sym, ap, ap₂, ◌∙◌}
 use mathlib.Core.List.{List, [], ◌++◌, append-nil}
 use native.Mathlib.Omega.{arith}
 use lib.ListN.{length, drop, length-drop, take-append-drop}
-use Rattle.octets.specs.declared.Order.{Order}
-use Rattle.octets.specs.declared.Order.TheVariants.{Less, Same, More}
+use Rattle.std.specs.declared.cmp.Ordering.{Ordering}
+use Rattle.std.specs.declared.cmp.Ordering.TheVariants.{Less, Equal, Greater}
 use Rattle.octets.specs.Bytes.{same}
 use Rattle.octets.specs.Order.{cmp, choose}
 use Rattle.octets.proofs.Orders.{cmp-refl, cmp-trans, cmp-shorter, starts-decide}
@@ -26,7 +26,7 @@ header-before : (r : List ℕ) → length r ≡ 384 → cmp (header r) (carried 
 header-before r l =
     ap₂ cmp (sym (append-nil (header r))) (with_rest r l)
     ∙ starts-decide (header r) (header r) [] rest refl
-    ∙ ap (λ (o : Order). choose o Less (cmp [] rest) More) (cmp-refl (header r))
+    ∙ ap (λ (o : Ordering). choose o Less (cmp [] rest) Greater) (cmp-refl (header r))
     ∙ sym (cmp-shorter [] rest 0 refl (omega arith) (simp (length-drop, carried-long r l) (omega arith)))
   where
     rest : List ℕ
@@ -35,17 +35,17 @@ header-before r l =
 pub front_less : (h r : List ℕ) → length r ≡ 384 → cmp h (header r) ≡ Less → cmp h (carried r) ≡ Less
 front_less h r l e = cmp-trans h (header r) (carried r) e (header-before r l)
 
-stays : (o p : Order) → (o ≡ Same → ⊥) → choose o Less p More ≡ o
+stays : (o p : Ordering) → (o ≡ Equal → ⊥) → choose o Less p Greater ≡ o
 stays Less p d = refl
-stays Same p d = absurd (d refl)
-stays More p d = refl
+stays Equal p d = absurd (d refl)
+stays Greater p d = refl
 
 module _ (q r : List ℕ) (lq : length q ≡ 384) (lr : length r ≡ 384) where
-  pub fronts-decide : (o : Order) → (o ≡ Same → ⊥) → cmp (header q) (header r) ≡ o → cmp (carried q) (carried r) ≡ o
+  pub fronts-decide : (o : Ordering) → (o ≡ Equal → ⊥) → cmp (header q) (header r) ≡ o → cmp (carried q) (carried r) ≡ o
   fronts-decide o d e =
       ap₂ cmp (with_rest q lq) (with_rest r lr)
       ∙ starts-decide (header q) (header r) (drop 243 (carried q)) (drop 243 (carried r)) (header-long q lq ∙ sym (header-long r lr))
-      ∙ ap (λ (c : Order). choose c Less (cmp (drop 243 (carried q)) (drop 243 (carried r))) More) e
+      ∙ ap (λ (c : Ordering). choose c Less (cmp (drop 243 (carried q)) (drop 243 (carried r))) Greater) e
       ∙ stays o (cmp (drop 243 (carried q)) (drop 243 (carried r))) d
 
   pub fronts-differ : same (header q) (header r) ≡ false → same (carried q) (carried r) ≡ false

@@ -4,24 +4,27 @@
 --     held_bytes, new-bytes             what an addition leaves
 --     held-now, next-rest               a batch added, record by record
 use Prim.Native.Nat.{ℕ, zero, suc, ◌+◌, ◌*◌, ◌-◌, ◌≤◌, ◌<◌}
-use mathlib.Core.Bool.{true, false}
+use mathlib.Core.Bool.{Bool, true, false, not, ◌||◌}
 use mathlib.Core.Path.{◌≡◌, refl, sym, ap, ap₂, ◌∙◌}
 use mathlib.Core.Logic.{inl, inr, ⊎_elim}
 use mathlib.Core.List.{List, [], ◌∷◌, ◌++◌, append_assoc}
-use native.Mathlib.Nat.{le_of_suc-le-suc, not-suc-le-zero, le_refl, le_antisymm, le_of_eq, zero-add, add-zero, suc-add}
+use native.Mathlib.Nat.{le_of_suc-le-suc, not-suc-le-zero, le_refl, le_of_eq, zero-add, add-zero, suc-add}
 use native.Mathlib.Numerals.{add-one}
 use native.Mathlib.Omega.{arith}
-use lib.ListN.{length, get_or, take, drop, set, length-take, length-drop, length-append, take-append-drop, drop_of_length-le, get_or-append}
-use lib.Seq.{sets, sets-eq, take-append-le, take-take, take_at, drop_at, drop-cons, take-suc, slice, slice-cons, set_at, length-take-le, get_or-take, get_or-drop, drop-drop, take-add, take_all, take-nil, append_snoc}
-use Rattle.octets.specs.declared.Order.{Order}
-use Rattle.octets.specs.declared.Order.TheVariants.{Less, Same, More}
+use lib.ListN.{length, get_or, take, drop, length-take, length-drop, length-append, take-append-drop, drop_of_length-le}
+use lib.Seq.{sets, sets-eq, take-append-le, take-take, take_at, drop_at, drop-cons, slice, length-take-le, get_or-take, get_or-drop, drop-drop, take-add, take_all, take-nil}
+use Rattle.std.specs.declared.cmp.Ordering.{Ordering}
+use Rattle.std.specs.declared.cmp.Ordering.TheVariants.{Less, Equal, Greater}
+use Rattle.octets.specs.Bytes.{pick}
 use Rattle.octets.specs.Order.{cmp, choose}
 use Rattle.octets.proofs.Parts.{length_part}
 use Rattle.records.specs.Record.{kind}
 use Rattle.ledger.specs.Sorted.{In, has, Sorted, insert, insert_all}
 use Rattle.ledger.proofs.Sorts.{in-insert_all, insert_all-sorted, insert-held, insert-new, insert_all-grows, insert_all-append, has_in}
-use Rattle.slots.specs.declared.Place.{Place}
-use Rattle.slots.specs.declared.Place.TheVariants.{New, Held}
+use Rattle.std.specs.Prelude.{Result, Ok, Err}
+use Rattle.std.specs.Simd.{first_chunks}
+use Rattle.std.specs.List.{list_any, copy_within}
+use Rattle.std.specs.Ordering.{is_eq}
 use Rattle.slots.specs.WorkingSlots.{rec, flat, later, place_of}
 use Rattle.slots.specs.Slots.{recs}
 
@@ -35,6 +38,21 @@ pub recs-get : (n i : ℕ) (s : List ℕ) → i < n → get_or (recs n s) i [] �
 recs-get zero i s h = absurd (not-suc-le-zero h)
 recs-get (suc n) zero s h = refl
 recs-get (suc n) (suc i) s h = recs-get n i (drop 384 s) (le_of_suc-le-suc h) ∙ ap (take 384) (drop-drop (i * 384) 384 s ∙ ap (λ (k : ℕ). drop k s) (let q : 384 + i * 384 ≡ suc i * 384 = omega arith in q))
+
+pub recs-chunks : (n : ℕ) (s : List ℕ) → first_chunks 384 n s ≡ recs n s
+recs-chunks zero s = refl
+recs-chunks (suc n) s = ap (λ (l : List (List ℕ)). take 384 s ∷ l) (recs-chunks n (drop 384 s))
+
+pub recs-first : (n m : ℕ) (s : List ℕ) → n ≤ m → take n (recs m s) ≡ recs n s
+recs-first zero m s h = refl
+recs-first (suc n) zero s h = absurd (not-suc-le-zero h)
+recs-first (suc n) (suc m) s h = ap (λ (l : List (List ℕ)). take 384 s ∷ l) (recs-first n m (drop 384 s) (le_of_suc-le-suc h))
+
+-- item i of the first n records
+pub item : (l : List (List ℕ)) (n i : ℕ) (s : List ℕ) → l ≡ recs n s → i < length l → (i < n) × (get_or l i [] ≡ rec i s)
+item l n i s e h =
+    let k : i < n = omega (arith, ap length e, recs-length n s) in
+    (k, ap (λ (m : List (List ℕ)). get_or m i []) e ∙ recs-get n i s k)
 
 pub recs-drop : (n i : ℕ) (s : List ℕ) → i < n → drop i (recs n s) ≡ rec i s ∷ drop (i + 1) (recs n s)
 recs-drop n i s h = drop-cons (recs n s) i [] (rw recs-length h) ∙ ap₂ ◌∷◌ (recs-get n i s h) (ap (λ (k : ℕ). drop k (recs n s)) (sym (add-one i)))
@@ -112,113 +130,103 @@ start-bytes n s = sym (ap (λ (l : List ℕ). l ++ drop (n * 384) s) (flat-all n
 
 -- ---- a place, and the insertion that it stands for
 
-abbrev pub insert_at : Place → List ℕ → List (List ℕ) → List (List ℕ)
-insert_at (New k) r l = take k l ++ r ∷ drop k l
-insert_at (Held k) r l = l
+abbrev pub insert_at : Result ℕ ℕ → List ℕ → List (List ℕ) → List (List ℕ)
+insert_at (Err k) r l = take k l ++ r ∷ drop k l
+insert_at (Ok k) r l = l
 
-later-insert : (p : Place) (r x : List ℕ) (l : List (List ℕ)) → insert_at (later p) r (x ∷ l) ≡ x ∷ insert_at p r l
-later-insert (New k) r x l = refl
-later-insert (Held k) r x l = refl
+later-insert : (p : Result ℕ ℕ) (r x : List ℕ) (l : List (List ℕ)) → insert_at (later p) r (x ∷ l) ≡ x ∷ insert_at p r l
+later-insert (Err k) r x l = refl
+later-insert (Ok k) r x l = refl
 
 pub place-insert : (r : List ℕ) (l : List (List ℕ)) → insert_at (place_of r l) r l ≡ insert r l
 place-insert r [] = refl
 place-insert r (x ∷ xs) = go (cmp r x) (place-insert r xs)
   where
-    go : (o : Order) → insert_at (place_of r xs) r xs ≡ insert r xs
-        → insert_at (choose o (New 0) (Held 0) (later (place_of r xs))) r (x ∷ xs) ≡ choose o (r ∷ x ∷ xs) (x ∷ xs) (x ∷ insert r xs)
+    go : (o : Ordering) → insert_at (place_of r xs) r xs ≡ insert r xs
+        → insert_at (choose o (Err 0) (Ok 0) (later (place_of r xs))) r (x ∷ xs) ≡ choose o (r ∷ x ∷ xs) (x ∷ xs) (x ∷ insert r xs)
     go Less ih = refl
-    go Same ih = refl
-    go More ih = later-insert (place_of r xs) r x xs ∙ ap (λ (l : List (List ℕ)). x ∷ l) ih
+    go Equal ih = refl
+    go Greater ih = later-insert (place_of r xs) r x xs ∙ ap (λ (l : List (List ℕ)). x ∷ l) ih
 
 -- a new place is within the list
-pub place-within : (r : List ℕ) (l : List (List ℕ)) (k : ℕ) → place_of r l ≡ New k → k ≤ length l
+pub place-within : (r : List ℕ) (l : List (List ℕ)) (k : ℕ) → place_of r l ≡ Err k → k ≤ length l
 place-within r [] k e = let q : 0 ≡ k = cc in omega arith
 place-within r (x ∷ xs) k e = go (cmp r x) (place_of r xs) refl (place-within r xs) e
   where
-    go : (o : Order) (p : Place) → place_of r xs ≡ p → ((j : ℕ) → place_of r xs ≡ New j → j ≤ length xs) → choose o (New 0) (Held 0) (later p) ≡ New k → k ≤ suc (length xs)
+    go : (o : Ordering) (p : Result ℕ ℕ) → place_of r xs ≡ p → ((j : ℕ) → place_of r xs ≡ Err j → j ≤ length xs) → choose o (Err 0) (Ok 0) (later p) ≡ Err k → k ≤ suc (length xs)
     go Less p d ih e = let q : 0 ≡ k = cc in omega arith
-    go Same p d ih e = absurd (let z : ◌≡◌ {A = ℕ} 0 1 = cc in omega arith)
-    go More (New j) d ih e = let q : suc j ≡ k = cc in omega (arith, ih j d)
-    go More (Held j) d ih e = absurd (let z : ◌≡◌ {A = ℕ} 0 1 = cc in omega arith)
+    go Equal p d ih e = absurd (let z : ◌≡◌ {A = ℕ} 0 1 = cc in omega arith)
+    go Greater (Err j) d ih e = let q : suc j ≡ k = cc in omega (arith, ih j d)
+    go Greater (Ok j) d ih e = absurd (let z : ◌≡◌ {A = ℕ} 0 1 = cc in omega arith)
 
 -- i records on
-abbrev pub laters : ℕ → Place → Place
-laters i (New k) = New (i + k)
-laters i (Held k) = Held (i + k)
+abbrev pub laters : ℕ → Result ℕ ℕ → Result ℕ ℕ
+laters i (Err k) = Err (i + k)
+laters i (Ok k) = Ok (i + k)
 
-laters-later : (i : ℕ) (p : Place) → laters i (later p) ≡ laters (i + 1) p
-laters-later i (New k) = ap New (let q : i + suc k ≡ i + 1 + k = omega arith in q)
-laters-later i (Held k) = ap Held (let q : i + suc k ≡ i + 1 + k = omega arith in q)
+laters-later : (i : ℕ) (p : Result ℕ ℕ) → laters i (later p) ≡ laters (i + 1) p
+laters-later i (Err k) = ap Err (let q : i + suc k ≡ i + 1 + k = omega arith in q)
+laters-later i (Ok k) = ap Ok (let q : i + suc k ≡ i + 1 + k = omega arith in q)
 
-pub laters-none : (p : Place) → p ≡ laters 0 p
-laters-none (New k) = ap New (sym (zero-add k))
-laters-none (Held k) = ap Held (sym (zero-add k))
+pub laters-none : (p : Result ℕ ℕ) → p ≡ laters 0 p
+laters-none (Err k) = ap Err (sym (zero-add k))
+laters-none (Ok k) = ap Ok (sym (zero-add k))
 
 -- ---- a look for the place of r that has passed i records
 
-module _ (r s : List ℕ) (n i : ℕ) (so : place_of r (recs n s) ≡ laters i (place_of r (drop i (recs n s)))) where
-  at_i : i < n → place_of r (recs n s) ≡ laters i (choose (cmp r (rec i s)) (New 0) (Held 0) (later (place_of r (drop (i + 1) (recs n s)))))
-  at_i h = so ∙ ap (λ (l : List (List ℕ)). laters i (place_of r l)) (recs-drop n i s h)
+module _ (r s : List ℕ) (n i : ℕ) (l : List (List ℕ)) (are : l ≡ recs n s) (so : place_of r (recs n s) ≡ laters i (place_of r (drop i (recs n s)))) where
+  within : i < length l → i < n
+  within h = omega (arith, ap length are, recs-length n s)
 
-  by_order : (o : Order) → o ≡ cmp r (rec i s) → i < n → place_of r (recs n s) ≡ laters i (choose o (New 0) (Held 0) (later (place_of r (drop (i + 1) (recs n s)))))
-  by_order o e h = at_i h ∙ ap (λ (p : Order). laters i (choose p (New 0) (Held 0) (later (place_of r (drop (i + 1) (recs n s)))))) (sym e)
-
-  pub scan-less : Less ≡ cmp r (rec i s) → i < n → New i ≡ place_of r (recs n s)
-  scan-less e h = sym (by_order Less e h ∙ ap New (add-zero i))
-
-  pub scan-same : Same ≡ cmp r (rec i s) → i < n → Held i ≡ place_of r (recs n s)
-  scan-same e h = sym (by_order Same e h ∙ ap Held (add-zero i))
-
-  pub scan-more : More ≡ cmp r (rec i s) → i < n → place_of r (recs n s) ≡ laters (i + 1) (place_of r (drop (i + 1) (recs n s)))
-  scan-more e h = by_order More e h ∙ laters-later i (place_of r (drop (i + 1) (recs n s)))
-
-  pub scan-end : n ≤ i → i ≤ n → New n ≡ place_of r (recs n s)
-  scan-end h k = sym (so ∙ ap (λ (l : List (List ℕ)). laters i (place_of r l)) (drop_of_length-le (recs n s) {i = i} (rw recs-length h)) ∙ ap New (add-zero i ∙ le_antisymm k h))
-
--- ---- a look for r that has passed i records
-
-module _ (r s : List ℕ) (n i : ℕ) (so : has r (recs n s) ≡ has r (drop i (recs n s))) where
-  pub has-at : (o : Order) → o ≡ cmp r (rec i s) → i < n → has r (recs n s) ≡ choose o (has r (drop (i + 1) (recs n s))) true (has r (drop (i + 1) (recs n s)))
-  has-at o e h =
+  by_order : (o : Ordering) → o ≡ cmp r (get_or l i []) → i < length l → place_of r (recs n s) ≡ laters i (choose o (Err 0) (Ok 0) (later (place_of r (drop (i + 1) (recs n s)))))
+  by_order o e h =
       so
-      ∙ ap (has r) (recs-drop n i s h)
-      ∙ ap (λ (p : Order). choose p (has r (drop (i + 1) (recs n s))) true (has r (drop (i + 1) (recs n s)))) (sym e)
+      ∙ ap (λ (k : List (List ℕ)). laters i (place_of r k)) (recs-drop n i s (within h))
+      ∙ ap (λ (p : Ordering). laters i (choose p (Err 0) (Ok 0) (later (place_of r (drop (i + 1) (recs n s)))))) (sym (e ∙ ap (cmp r) (ap (λ (k : List (List ℕ)). get_or k i []) are ∙ recs-get n i s (within h))))
 
-  pub has_end_lem : n ≤ i → false ≡ has r (recs n s)
-  has_end_lem h = sym (so ∙ ap (has r) (drop_of_length-le (recs n s) {i = i} (rw recs-length h)))
+  pub scan-less : Less ≡ cmp r (get_or l i []) → i < length l → Err i ≡ place_of r (recs n s)
+  scan-less e h = sym (by_order Less e h ∙ ap Err (add-zero i))
+
+  pub scan-same : Equal ≡ cmp r (get_or l i []) → i < length l → Ok i ≡ place_of r (recs n s)
+  scan-same e h = sym (by_order Equal e h ∙ ap Ok (add-zero i))
+
+  pub scan-more : Greater ≡ cmp r (get_or l i []) → i < length l → place_of r (recs n s) ≡ laters (i + 1) (place_of r (drop (i + 1) (recs n s)))
+  scan-more e h = by_order Greater e h ∙ laters-later i (place_of r (drop (i + 1) (recs n s)))
+
+  pub scan-end : length l ≤ i → i ≤ length l → Err n ≡ place_of r (recs n s)
+  scan-end h k =
+      let q : i ≡ n = omega (arith, ap length are, recs-length n s) in
+      sym (so ∙ ap (λ (m : List (List ℕ)). laters i (place_of r m)) (drop_of_length-le (recs n s) {i = i} (rw recs-length (omega arith))) ∙ ap Err (add-zero i ∙ q))
+
+-- ---- a look for r
+
+pub has-any : (r : List ℕ) (l : List (List ℕ)) → list_any (λ x. is_eq (cmp r x)) l ≡ has r l
+has-any r [] = refl
+has-any r (x ∷ l) = go (cmp r x) (has-any r l)
+  where
+    go : (o : Ordering) → list_any (λ x. is_eq (cmp r x)) l ≡ has r l → (is_eq o || list_any (λ x. is_eq (cmp r x)) l) ≡ choose o (has r l) true (has r l)
+    go Less h = h
+    go Equal h = refl
+    go Greater h = h
 
 -- ---- one record added
 
--- one byte moved up by a record
-pub shift-step : (s b : List ℕ) (i j to : ℕ) → i ≡ suc j → i ≤ to → to + 384 ≤ length s
-    → b ≡ take (i + 384) s ++ (slice i to s ++ drop (to + 384) s)
-    → set b (j + 384) (get_or b j 0) ≡ take (j + 384) s ++ (slice j to s ++ drop (to + 384) s)
-shift-step s b i j to e h room is =
-    ap₂ (λ (l : List ℕ) (v : ℕ). set l (j + 384) v) b-is get-is
-    ∙ set_at (take (j + 384) s) (get_or s (j + 384) 0) (slice i to s ++ drop (to + 384) s) (get_or s j 0) (j + 384) (length-take-le (j + 384) s (omega arith))
-    ∙ ap (λ (l : List ℕ). take (j + 384) s ++ (l ++ drop (to + 384) s)) (sym (slice-cons j to s 0 (omega arith) (omega arith) ∙ ap (λ (n : ℕ). get_or s j 0 ∷ slice n to s) (sym e)))
-  where
-    b-is : b ≡ take (j + 384) s ++ (get_or s (j + 384) 0 ∷ (slice i to s ++ drop (to + 384) s))
-    b-is =
-        is
-        ∙ ap (λ (n : ℕ). take n s ++ (slice i to s ++ drop (to + 384) s)) (let q : i + 384 ≡ suc (j + 384) = omega arith in q)
-        ∙ ap (λ (l : List ℕ). l ++ (slice i to s ++ drop (to + 384) s)) (take-suc s (j + 384) 0 (omega arith))
-        ∙ append_snoc (take (j + 384) s) (get_or s (j + 384) 0) (slice i to s ++ drop (to + 384) s)
-
-    get-is : get_or b j 0 ≡ get_or s j 0
-    get-is =
-        ap (λ (l : List ℕ). get_or l j 0) is
-        ∙ get_or-append (take (i + 384) s) (slice i to s ++ drop (to + 384) s) 0 j (rw (length-take-le (i + 384) s (omega arith)) (omega arith))
-        ∙ get_or-take (i + 384) s j 0 (omega arith)
+-- bytes moved up by a record
+pub moved : (s : List ℕ) (from to : ℕ) → from ≤ to → copy_within s from to (from + 384) ≡ take (from + 384) s ++ (slice from to s ++ drop (to + 384) s)
+moved s from to h =
+    let q : from + 384 + (to - from) ≡ to + 384 = omega arith in
+    let e : take (to - from) (drop from s) ≡ slice from to s = sym (drop-take from (to - from) s) ∙ ap (λ (k : ℕ). drop from (take k s)) (let z : from + (to - from) ≡ to = omega arith in z) in
+    append_assoc (take (from + 384) s) (take (to - from) (drop from s)) (drop (from + 384 + (to - from)) s)
+    ∙ ap₂ (λ (a : List ℕ) (k : ℕ). take (from + 384) s ++ (a ++ drop k s)) e q
 
 flat_append : (a b : List (List ℕ)) → flat (a ++ b) ≡ flat a ++ flat b
 flat_append [] b = refl
 flat_append (r ∷ a) b = ap (λ (l : List ℕ). r ++ l) (flat_append a b) ∙ sym (append_assoc r (flat a) (flat b))
 
 -- a record that is held: nothing changes
-module _ (s r : List ℕ) (n k : ℕ) (at : Held k ≡ place_of r (recs n s)) where
+module _ (s r : List ℕ) (n k : ℕ) (at : Ok k ≡ place_of r (recs n s)) where
   pub held_same : insert r (recs n s) ≡ recs n s
-  held_same = sym (place-insert r (recs n s)) ∙ ap (λ (p : Place). insert_at p r (recs n s)) (sym at)
+  held_same = sym (place-insert r (recs n s)) ∙ ap (λ (p : Result ℕ ℕ). insert_at p r (recs n s)) (sym at)
 
   pub held-count : n ≡ length (insert r (recs n s))
   held-count = sym (ap length held_same ∙ recs-length n s)
@@ -227,15 +235,19 @@ module _ (s r : List ℕ) (n k : ℕ) (at : Held k ≡ place_of r (recs n s)) wh
   held_bytes = sym (ap (λ (l : List (List ℕ)). flat l ++ drop (n * 384) s) held_same ∙ ap (λ (l : List ℕ). l ++ drop (n * 384) s) (flat-all n s) ∙ take-append-drop (n * 384) s)
 
 -- a new one: shifted and stored
-module _ (s r : List ℕ) (n k : ℕ) (at : New k ≡ place_of r (recs n s)) where
+module _ (s r : List ℕ) (n k : ℕ) (at : Err k ≡ place_of r (recs n s)) where
   pub new-within : k ≤ n
   new-within = rw (← recs-length n s) (place-within r (recs n s) k (sym at))
 
   new-insert : insert r (recs n s) ≡ take k (recs n s) ++ r ∷ drop k (recs n s)
-  new-insert = sym (place-insert r (recs n s)) ∙ ap (λ (p : Place). insert_at p r (recs n s)) (sym at)
+  new-insert = sym (place-insert r (recs n s)) ∙ ap (λ (p : Result ℕ ℕ). insert_at p r (recs n s)) (sym at)
 
   pub new-count : n + 1 ≡ length (insert r (recs n s))
   new-count = sym (ap length new-insert ∙ simp (length-append, length-take, length-drop, recs-length) (omega (arith, new-within)))
+
+  -- and there is room behind it
+  pub new-room : length (insert r (recs n s)) * 384 ≤ length s → (k ≤ n) × ((n + 1) * 384 ≤ length s)
+  new-room h = (new-within, rw new-count h)
 
   pub new-bytes : (s₁ s₂ : List ℕ) → (n + 1) * 384 ≤ length s → length r ≡ 384 → length s₁ ≡ length s
       → s₁ ≡ take (k * 384 + 384) s ++ (slice (k * 384) (n * 384) s ++ drop (n * 384 + 384) s)
@@ -288,6 +300,14 @@ module _ (s t : List ℕ) (n i : ℕ) (sorted : Sorted (recs n s)) where
     where
       none : In (rec i t) (insert_all (recs i t) (recs n s)) → ⊥
       none m = ⊎_elim (λ k. let g : false ≡ true = f ∙ (has_in (rec i t) (recs i t)).1 k in let z : ◌≡◌ {A = ℕ} 0 1 = cc in omega arith) (λ k. let g : false ≡ true = e ∙ (has_in (rec i t) (recs n s)).1 k in let z : ◌≡◌ {A = ℕ} 0 1 = cc in omega arith) ((in-insert_all (rec i t) (recs i t) (recs n s)).0 m)
+
+  -- record i is one more where it is neither
+  pub count-old : (h : Bool) → h ≡ true → true ≡ has (rec i t) (recs n s) → pick (not h) 1 0 + length (insert_all (recs i t) (recs n s)) ≡ length (insert_all (recs (i + 1) t) (recs n s))
+  count-old h e a = rw e (old-count (on-board a))
+
+  pub count-next : (h : Bool) → h ≡ has (rec i t) (recs i t) → false ≡ has (rec i t) (recs n s) → pick (not h) 1 0 + length (insert_all (recs i t) (recs n s)) ≡ length (insert_all (recs (i + 1) t) (recs n s))
+  count-next true e a = old-count (in-batch e)
+  count-next false e a = batch-count a e
 
 -- ---- a batch t of which i records are added to the first n of s: b, with k records
 

@@ -1,9 +1,7 @@
 -- A record by its index, records one after the other, and where a record goes.
-use Rattle.std.specs.Prelude.{ℕ, suc, ◌*◌, List, [], ◌∷◌, ◌++◌}
+use Rattle.std.specs.Prelude.{ℕ, suc, ◌*◌, Result, Ok, Err, List, [], ◌∷◌, ◌++◌}
 use Rattle.octets.specs.Bytes.{part}
 use Rattle.octets.specs.Order.{cmp, choose}
-use Rattle.slots.specs.declared.Place.{Place}
-use Rattle.slots.specs.declared.Place.TheVariants.{New, Held}
 
 -- the record at index i
 abbrev pub rec : ℕ → List ℕ → List ℕ
@@ -15,11 +13,11 @@ flat [] = []
 flat (r ∷ rs) = r ++ flat rs
 
 -- one further on
-abbrev pub later : Place → Place
-later (New k) = New (suc k)
-later (Held k) = Held (suc k)
+abbrev pub later : Result ℕ ℕ → Result ℕ ℕ
+later (Err k) = Err (suc k)
+later (Ok k) = Ok (suc k)
 
--- where r goes in a strictly ascending list: before the first record that is after it, or where it is held
-abbrev pub place_of : List ℕ → List (List ℕ) → Place
-place_of r [] = New 0
-place_of r (x ∷ xs) = choose (cmp r x) (New 0) (Held 0) (later (place_of r xs))
+-- where r goes in a strictly ascending list: a new one before the first record that is after it (Err), or where it is held (Ok)
+abbrev pub place_of : List ℕ → List (List ℕ) → Result ℕ ℕ
+place_of r [] = Err 0
+place_of r (x ∷ xs) = choose (cmp r x) (Err 0) (Ok 0) (later (place_of r xs))

@@ -3,22 +3,17 @@
 
 ghost use Rattle.std.specs.Prelude.{◌≡◌, ◌++◌, ◌+◌, ◌*◌, ◌≤◌, length, take, drop};
 ghost use Rattle.std.proofs.Math.Seq.{slice};
-ghost use Rattle.octets.specs.Bytes.{same};
+ghost use Rattle.octets.specs.Bytes.{pick, same};
 ghost use Rattle.octets.specs.Order.{cmp};
 ghost use Rattle.records.specs.Record.{header, carried, aired};
 ghost use Rattle.ledger.specs.Sorted.{has, Sorted, insert, insert_all};
 ghost use Rattle.slots.specs.WorkingSlots.{rec, flat, place_of};
 ghost use Rattle.slots.specs.Slots.{recs};
 
-use octets::Order;
 use records::Record;
+use std::cmp::Ordering;
 
-// Where a record goes: a new one to an index, or it is held there.
-#[derive(Drop)]
-pub enum Place {
-    New(usize),
-    Held(usize),
-}
+// A slice and how many of its records count: an addition changes both at once, so that no view of the records can be held over it.
 
 // The record at index i.
 pub fn record_at(s: &[u8], i: usize) -> &[u8]
@@ -26,25 +21,30 @@ pub fn record_at(s: &[u8], i: usize) -> &[u8]
     ensures { result.now ≡ rec i s.now }
 {
     let at = i * Record::SIZE;
-    let end = at + Record::SIZE;
-    &s[at..end]
+    &s[at..at + Record::SIZE]
 }
 
-// The place of r among the first n records.
-pub fn locate(s: &[u8], n: usize, r: &[u8]) -> Place
+// The first n records.
+pub fn first(s: &[u8], n: usize) -> &[[u8; Record::SIZE]]
+    requires { n * 384 ≤ length s.now }
+    ensures { result.now ≡ recs n s.now }
+{
+    &s.as_chunks().0[..n]
+}
+
+// The place of r among the first n records: the index at which it is held, else that at which a new one goes.
+pub fn locate(s: &[u8], n: usize, r: &[u8]) -> Result<usize, usize>
     requires { n * 384 ≤ length s.now }
     ensures { result ≡ place_of r.now (recs n s.now) }
 {
-    let mut i: usize = 0;
-    while i < n {
-        match octets::compare(r, record_at(s, i)) {
-            Order::Less => return Place::New(i),
-            Order::Same => return Place::Held(i),
-            Order::More => {}
+    for (i, held) in first(s, n).iter().enumerate() {
+        match octets::compare(r, held) {
+            Ordering::Less => return Err(i),
+            Ordering::Equal => return Ok(i),
+            Ordering::Greater => {}
         }
-        i += 1;
     }
-    Place::New(n)
+    Err(n)
 }
 
 // Whether r is one of the first n records.
@@ -52,16 +52,9 @@ pub fn holds(s: &[u8], n: usize, r: &[u8]) -> bool
     requires { n * 384 ≤ length s.now }
     ensures { result ≡ has r.now (recs n s.now) }
 {
-    let mut i: usize = 0;
-    while i < n {
-        match octets::compare(r, record_at(s, i)) {
-            Order::Less => {}
-            Order::Same => return true,
-            Order::More => {}
-        }
-        i += 1;
-    }
-    false
+    first(s, n)
+        .iter()
+        .any(|held| octets::compare(r, held).is_eq())
 }
 
 // Moves the bytes from `from` up to `to` up by one record.
@@ -69,13 +62,7 @@ fn shift(s: &mut [u8], from: usize, to: usize)
     requires { (from ≤ to) × (to + 384 ≤ length s.old) }
     ensures { s.new ≡ take (from + 384) s.old ++ (slice from to s.old ++ drop (to + 384) s.old) }
 {
-    let mut i = to;
-    while from < i {
-        let j = i - 1;
-        let k = j + Record::SIZE;
-        s[k] = s[j];
-        i = j;
-    }
+    s.copy_within(from..to, from + Record::SIZE);
 }
 
 // Adds r to the first n records, in its place, unless it is held. The result is how many there are then.
@@ -85,11 +72,10 @@ pub fn add(s: &mut [u8], n: usize, r: &[u8]) -> usize
     ensures s_after { s.new ≡ flat (insert r.now (recs n s.old)) ++ drop (result * 384) s.old }
 {
     match locate(s, n, r) {
-        Place::Held(_) => n,
-        Place::New(k) => {
+        Ok(_) => n,
+        Err(k) => {
             let from = k * Record::SIZE;
-            let to = n * Record::SIZE;
-            shift(s, from, to);
+            shift(s, from, n * Record::SIZE);
             octets::put_bytes(s, from, r);
             n + 1
         }
@@ -98,20 +84,13 @@ pub fn add(s: &mut [u8], n: usize, r: &[u8]) -> usize
 
 // ---- the first m records of a batch
 
-// 1 where record i of the batch is neither among the first n records nor before it in the batch, else 0.
-fn news(s: &[u8], n: usize, batch: &[u8], i: usize) -> usize
+// Whether record i of the batch is neither among the first n records nor before it in the batch.
+fn is_new(s: &[u8], n: usize, batch: &[u8], i: usize) -> bool
     requires { (n * 384 ≤ length s.now) × ((i + 1) * 384 ≤ length batch.now) × Sorted (recs n s.now) }
-    ensures s_value { result + length (insert_all (recs i batch.now) (recs n s.now)) ≡ length (insert_all (recs (i + 1) batch.now) (recs n s.now)) }
-    ensures upper_bound { result ≤ 1 }
+    ensures { pick result 1 0 + length (insert_all (recs i batch.now) (recs n s.now)) ≡ length (insert_all (recs (i + 1) batch.now) (recs n s.now)) }
 {
     let r = record_at(batch, i);
-    if holds(s, n, r) {
-        return 0;
-    }
-    if holds(batch, i, r) {
-        return 0;
-    }
-    1
+    !holds(s, n, r) && !holds(batch, i, r)
 }
 
 // How many of them are new to the first n records.
@@ -120,13 +99,14 @@ pub fn tally(s: &[u8], n: usize, batch: &[u8], m: usize) -> usize
     ensures n_value { result + n ≡ length (insert_all (recs m batch.now) (recs n s.now)) }
     ensures upper_bound { result ≤ m }
 {
-    let mut i: usize = 0;
-    let mut k: usize = 0;
-    while i < m {
-        k = k + news(s, n, batch, i);
-        i += 1;
+    let mut count = 0;
+    // By index: record i is looked for among those before it too.
+    for i in 0..m {
+        if is_new(s, n, batch, i) {
+            count += 1;
+        }
     }
-    k
+    count
 }
 
 // Adds them to the first n records, where there is room. The result is how many there are then.
@@ -135,11 +115,9 @@ pub fn add_all(s: &mut [u8], n: usize, batch: &[u8], m: usize) -> usize
     ensures value { result ≡ length (insert_all (recs m batch.now) (recs n s.old)) }
     ensures s_after { s.new ≡ flat (insert_all (recs m batch.now) (recs n s.old)) ++ drop (result * 384) s.old }
 {
-    let mut i: usize = 0;
     let mut k = n;
-    while i < m {
-        k = add(s, k, record_at(batch, i));
-        i += 1;
+    for r in first(batch, m) {
+        k = add(s, k, r);
     }
     k
 }
@@ -152,9 +130,7 @@ fn front_at(s: &[u8], i: usize) -> &[u8]
     ensures { result.now ≡ header (rec i s.now) }
 {
     let at = i * Record::SIZE;
-    let from = at + Record::HEADER;
-    let to = at + Record::YEAR;
-    &s[from..to]
+    &s[at + Record::HEADER..at + Record::YEAR]
 }
 
 // The header of record i.
@@ -166,37 +142,32 @@ pub fn header_at(s: &[u8], i: usize) -> [u8; Record::CARRIED]
 }
 
 // How a header stands to that of record i, as both are written out.
-fn compare_whole(h: &[u8], s: &[u8], i: usize) -> Order
+fn compare_whole(h: &[u8], s: &[u8], i: usize) -> Ordering
     requires { (i + 1) * 384 ≤ length s.now }
     ensures { result ≡ cmp h.now (carried (rec i s.now)) }
 {
-    let at = header_at(s, i);
-    octets::compare(h, &at)
+    octets::compare(h, &header_at(s, i))
 }
 
 // How a header stands to that of record i.
-pub fn compare_header(h: &[u8], s: &[u8], i: usize) -> Order
+pub fn compare_header(h: &[u8], s: &[u8], i: usize) -> Ordering
     requires { (i + 1) * 384 ≤ length s.now }
     ensures { result ≡ cmp h.now (carried (rec i s.now)) }
 {
     match octets::compare(h, front_at(s, i)) {
-        Order::Less => Order::Less,
+        Ordering::Less => Ordering::Less,
         _ => compare_whole(h, s, i),
     }
 }
 
 // How the header of record i stands to that of record j.
-pub fn compare_headers(s: &[u8], i: usize, j: usize) -> Order
+pub fn compare_headers(s: &[u8], i: usize, j: usize) -> Ordering
     requires { ((i + 1) * 384 ≤ length s.now) × ((j + 1) * 384 ≤ length s.now) }
     ensures { result ≡ cmp (carried (rec i s.now)) (carried (rec j s.now)) }
 {
     match octets::compare(front_at(s, i), front_at(s, j)) {
-        Order::Less => Order::Less,
-        Order::More => Order::More,
-        Order::Same => {
-            let h = header_at(s, i);
-            compare_whole(&h, s, j)
-        }
+        Ordering::Equal => compare_whole(&header_at(s, i), s, j),
+        decided => decided,
     }
 }
 
@@ -205,12 +176,8 @@ pub fn same_header(s: &[u8], i: usize, j: usize) -> bool
     requires { ((i + 1) * 384 ≤ length s.now) × ((j + 1) * 384 ≤ length s.now) }
     ensures { result ≡ same (carried (rec i s.now)) (carried (rec j s.now)) }
 {
-    if !octets::equal(front_at(s, i), front_at(s, j)) {
-        return false;
-    }
-    let g = header_at(s, i);
-    let h = header_at(s, j);
-    octets::equal(&g, &h)
+    octets::equal(front_at(s, i), front_at(s, j))
+        && octets::equal(&header_at(s, i), &header_at(s, j))
 }
 
 // The aired record of record i's header.
@@ -218,6 +185,5 @@ pub fn aired_at(s: &[u8], i: usize) -> Record
     requires { (i + 1) * 384 ≤ length s.now }
     ensures { result.bytes ≡ aired (carried (rec i s.now)) }
 {
-    let h = header_at(s, i);
-    Record::aired(&h)
+    Record::aired(&header_at(s, i))
 }

@@ -19,19 +19,19 @@ use outputs::TextAudio;
 use parts::Body;
 
 // What a bit counts.
-const BIT8: u64 = 256;
+const BIT8: u64 = 1 << 8;
 
-const BIT16: u64 = 65536;
+const BIT16: u64 = 1 << 16;
 
-const BIT24: u64 = 16777216;
+const BIT24: u64 = 1 << 24;
 
-const BIT28: u64 = 268435456;
+const BIT28: u64 = 1 << 28;
 
-const BIT32: u64 = 4294967296;
+const BIT32: u64 = 1 << 32;
 
-const BIT48: u64 = 281474976710656;
+const BIT48: u64 = 1 << 48;
 
-const BIT55: u64 = 36028797018963968;
+const BIT55: u64 = 1 << 55;
 
 // ---- header and must-carry
 
@@ -46,10 +46,7 @@ fn pack_headed(c: Headed) -> u64
     requires { NarrowHeaded c }
     ensures { result ≡ packed_headed c }
 {
-    let number = c.number as u64;
-    let field = c.field as u64;
-    let header = c.header as u64;
-    number + field * BIT8 + header * BIT16 + pack_carry(c.carry)
+    u64::from(c.number) + u64::from(c.field) * BIT8 + c.header as u64 * BIT16 + pack_carry(c.carry)
 }
 
 // Gives the header of a message from the start of `header`, and must-carry, or 2 to 14 and nothing written.
@@ -58,8 +55,7 @@ pub extern "C" fn stuiverhaag_header(message: &[u8], station: &[u8], header: &mu
     ensures value { result ≡ packed_headed (header_answer_of (header_call message.now station.now (length header.old))) }
     ensures header_after { header.new ≡ sets header.old 0 (header_call message.now station.now (length header.old)).given.header }
 {
-    let c = convert::header(message, station, header);
-    pack_headed(c)
+    pack_headed(convert::header(message, station, header))
 }
 
 // ---- text and audio
@@ -68,12 +64,11 @@ fn pack_text(t: TextAudio) -> u64
     requires { NarrowText t }
     ensures { result ≡ packed_text t }
 {
-    let number = t.number as u64;
-    let field = t.field as u64;
-    let audio = t.audio as u64;
-    let uri = t.uri as u64;
-    let text = t.text as u64;
-    number + field * BIT8 + audio * BIT24 + uri * BIT32 + text * BIT48
+    u64::from(t.number)
+        + u64::from(t.field) * BIT8
+        + u64::from(t.audio) * BIT24
+        + t.uri as u64 * BIT32
+        + t.text as u64 * BIT48
 }
 
 // Gives the text and the uri of a message, from the start of each output, or 2 to 14 and nothing written.
@@ -88,8 +83,7 @@ pub extern "C" fn stuiverhaag_text(
     ensures text_after { text.new ≡ sets text.old 0 (text_call message.now station.now (length text.old) (length uri.old)).given.text }
     ensures uri_after { uri.new ≡ sets uri.old 0 (text_call message.now station.now (length text.old) (length uri.old)).given.uri }
 {
-    let t = convert::text(message, station, text, uri);
-    pack_text(t)
+    pack_text(convert::text(message, station, text, uri))
 }
 
 // Gives the text and the uri of a message in the Canadian mode, from the start of each output, or 2, 4 to 9 and 18 and nothing written.
@@ -99,8 +93,7 @@ pub extern "C" fn stuiverhaag_canadian(message: &[u8], text: &mut [u8], uri: &mu
     ensures text_after { text.new ≡ sets text.old 0 (canadian_of message.now (length text.old) (length uri.old)).given.text }
     ensures uri_after { uri.new ≡ sets uri.old 0 (canadian_of message.now (length text.old) (length uri.old)).given.uri }
 {
-    let t = canadian::convert(message, text, uri);
-    pack_text(t)
+    pack_text(canadian::convert(message, text, uri))
 }
 
 // ---- a header
@@ -110,14 +103,12 @@ fn pack_body(b: Body) -> u64
     requires { NarrowBody b }
     ensures { result ≡ packed_body b }
 {
-    let o = b.originator;
-    let originator = parts::originator_number(o) as u64;
-    let count = b.count as u64;
-    let hour = b.hour as u64;
-    let period = b.period as u64;
-    let minute = b.minute as u64;
-    let day = b.day as u64;
-    originator * BIT8 + count * BIT16 + hour * BIT24 + period * BIT32 + minute * BIT48 + day * BIT55
+    u64::from(parts::originator_number(b.originator)) * BIT8
+        + b.count as u64 * BIT16
+        + u64::from(b.hour) * BIT24
+        + u64::from(b.period) * BIT32
+        + u64::from(b.minute) * BIT48
+        + u64::from(b.day) * BIT55
 }
 
 // The parts of a header, or 17.
@@ -127,11 +118,9 @@ pub extern "C" fn stuiverhaag_read_header(header: &[u8]) -> u64
 {
     let r = header::read_header(header);
     if r.number != 0 {
-        return r.number as u64;
+        return u64::from(r.number);
     }
-    let p = r.parts;
-    let b = p.body;
-    pack_body(b)
+    pack_body(r.parts.body)
 }
 
 // Writes a header from the start of `out`: its length, or 2, 3 or 17 and nothing written.
@@ -153,7 +142,7 @@ pub extern "C" fn stuiverhaag_write_header(
     let w = header::write_asked(
         originator, event, locations, period, day, hour, minute, station, out,
     );
-    (w.number as u64) + (w.len as u64) * BIT16
+    u64::from(w.number) + w.len as u64 * BIT16
 }
 
 // ---- a board
@@ -165,7 +154,7 @@ pub extern "C" fn stuiverhaag_offer(s: &mut [u8], message: &[u8]) -> u64
     ensures s_after { s.new ≡ (message_offer s.old message.now).bytes }
 {
     let o = offers::offer(s, message);
-    (o.number as u64) + (o.field as u64) * BIT8 + (o.added as u64) * BIT16
+    u64::from(o.number) + u64::from(o.field) * BIT8 + o.added as u64 * BIT16
 }
 
 // Hands out the first due header: the index of the smallest notice that makes it due, or 1, 16 or 15 and nothing written.
@@ -175,5 +164,5 @@ pub extern "C" fn stuiverhaag_hand_out(s: &mut [u8]) -> u64
     ensures s_after { s.new ≡ (hand_of s.old).bytes }
 {
     let h = board::hand_out(s);
-    (h.number as u64) + (h.index as u64) * BIT16
+    u64::from(h.number) + h.index as u64 * BIT16
 }

@@ -1,4 +1,5 @@
 // The archive for a host in C: each function calls that of the same name of crate stuiverhaag, and has its clauses. include/stuiverhaag.h declares the same.
+// A crate is a library or makes an archive, so the seven stand twice: the theorems speak of those of the library.
 #![tactic(auto)]
 
 ghost use Rattle.std.specs.Prelude.{◌≡◌, length};

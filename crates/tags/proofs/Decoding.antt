@@ -14,7 +14,7 @@ use Rattle.octets.specs.Bytes.{byte_at, same}
 use Rattle.octets.proofs.Parts.{tail_step}
 use Rattle.octets.proofs.Sames.{same_step, same_stop}
 use Rattle.pieces.specs.Pieces.{char_at}
-use Rattle.pieces.specs.declared.Ref.TheVariants.{Scalar, Wrong}
+use Rattle.std.specs.Prelude.{Option, Some, None, is_none}
 use Rattle.pieces.proofs.Goes.{Goes, char-goes}
 use Rattle.tags.specs.Attributes.{character_then, decoded_from, decoded_at}
 
@@ -49,7 +49,7 @@ module _ (s w : List ℕ) (q : ℕ) (whole : Bool) (i k : ℕ) (d : Decoding s w
       go zero = refl
       go (suc n) = rw (eq-eqb (byte_at s i) q e, decoded_from)
 
-  pub decoding-wrong : (byte_at s i ≡ q → ⊥) → char_at s i ≡ Wrong → eqb k (length w) ≡ whole
+  pub decoding-wrong : (byte_at s i ≡ q → ⊥) → char_at s i ≡ None → eqb k (length w) ≡ whole
   unfolding decoded_from character_then
   decoding-wrong n e = ended go
     where
@@ -61,7 +61,7 @@ module _ (s w : List ℕ) (q : ℕ) (whole : Bool) (i k : ℕ) (d : Decoding s w
 pub record Read (s w : List ℕ) (q : ℕ) (whole : Bool) (i k c j : ℕ) : Type 0 where
   pub so_far : Decoding s w q whole i k
   pub no_end : byte_at s i ≡ q → ⊥
-  pub is : char_at s i ≡ Scalar c j
+  pub is : char_at s i ≡ Some (c, j)
 
 module _ {s w : List ℕ} {q : ℕ} {whole : Bool} {i k c j : ℕ} (r : Read s w q whole i k c j) where
   pub decoding-on : Goes s i j
@@ -95,3 +95,11 @@ module _ {s w : List ℕ} {q : ℕ} {whole : Bool} {i k c j : ℕ} (r : Read s w
         within = omega arith;
         left = sym (same_step c (get_or w k 0) (decoded_from s q m j) (drop (k + 1) w) u) ∙ rw (tail_step w k h) at l;
       })
+
+-- behind w, the value ends or has a character too many
+pub decoding-last : (s w : List ℕ) (q : ℕ) (whole : Bool) (i k : ℕ) → Decoding s w q whole i k → (byte_at s i ≡ q → ⊥) → length w ≤ k → is_none (char_at s i) ≡ whole
+decoding-last s w q whole i k d n h = go (char_at s i) refl
+  where
+    go : (r : Option (ℕ × ℕ)) → char_at s i ≡ r → is_none r ≡ whole
+    go (Some (c, j)) e = decoding-long (record { so_far = d; no_end = n; is = e }) h
+    go None e = let x = d.within in sym (eq-eqb k (length w) (omega arith)) ∙ decoding-wrong s w q whole i k d n e

@@ -1,18 +1,21 @@
 -- A run that is two runs, one behind the other, and parts of a run to its end.
-use Prim.Native.Nat.{ℕ, ◌-◌, ◌<◌}
-use mathlib.Core.Path.{◌≡◌, refl}
+use Prim.Native.Nat.{ℕ, ◌-◌, ◌≤◌}
+use mathlib.Core.Path.{◌≡◌, refl, ap}
 use mathlib.Core.Bool.{Bool, true, false, ◌&&◌}
 use mathlib.Core.List.{List, [], ◌∷◌, ◌++◌}
 use native.Mathlib.Omega.{arith}
-use lib.ListN.{length, take, drop, length-append, length-drop}
+use lib.ListN.{length, take, drop, length-take, length-drop}
 use lib.Seq.{take_all}
 use lib.Dec.{eqb}
-use Rattle.octets.specs.Bytes.{same}
-use Rattle.octets.proofs.Sames.{same-long}
+use Rattle.octets.specs.Bytes.{same, stands}
+use Rattle.octets.proofs.Sames.{stands-is}
 
--- too short for the first
-pub joined-short : (t a b : List ℕ) → length t < length a → same t (a ++ b) ≡ false
-joined-short t a b h = same-long t (a ++ b) (λ e. let l = length-append a b in omega arith)
+-- what begins with the first is as long
+pub joined-fits : (t a : List ℕ) → stands a t 0 ≡ true → length a ≤ length t
+joined-fits t a h =
+    let e = ap length (stands-is a t 0 h) in
+    let f : length (take (length a) t) ≤ length t = simp length-take (omega arith) in
+    omega (arith, e, f)
 
 -- the first part differs, or it is the same and the rest decides
 pub joined-not : (t a b : List ℕ) → same (take (length a) t) a ≡ false → same t (a ++ b) ≡ false

@@ -16,23 +16,22 @@ use lib.Seq.{get_or-set_same, get_or-set_other}
 use Rattle.octets.specs.Bytes.{pick, part, same}
 use Rattle.octets.proofs.Sames.{same-is, same_refl}
 use Rattle.octets.proofs.Tests.{never}
-use Rattle.pieces.specs.declared.End.{End}
-use Rattle.pieces.specs.declared.End.TheVariants.{At, No}
+use Rattle.std.specs.Prelude.{Option, Some, None}
 use Rattle.tags.specs.WorkingTree.{nodes, cells, bit_of, cell_of, node_name, node_on, way_from, way, NameTree, hung}
 
 pub turn_small : (w : List ℕ) (d : ℕ) → bit_of w d < 2
 unfolding bit_of
 turn_small w d = omega arith
 
-onward-on : (k x : ℕ) (rest : ℕ → End) → 0 < k → node_on k x rest ≡ rest k
+onward-on : (k x : ℕ) (rest : ℕ → Option ℕ) → 0 < k → node_on k x rest ≡ rest k
 unfolding node_on
 onward-on zero x rest h = absurd (omega arith)
 onward-on (suc k) x rest h = refl
 
-no-at : {A : Type 0} (x : ℕ) → No ≡ At x → A
+no-at : {A : Type 0} (x : ℕ) → None ≡ Some x → A
 no-at x h = let z : ◌≡◌ {A = ℕ} 0 1 = cc in absurd (omega arith)
 
-at-is : (x y : ℕ) → At x ≡ At y → x ≡ y
+at-is : (x y : ℕ) → Some x ≡ Some y → x ≡ y
 at-is x y h = cc
 
 -- ---- trees
@@ -94,27 +93,27 @@ pub record OnWay (s t w : List ℕ) (n d k : ℕ) : Type 0 where
   pub whole : way_from s t w left d k ≡ way s t w
 
 module _ (s t w : List ℕ) (n : ℕ) (tr : NameTree s t n) where
-  way_slot : (x m d k : ℕ) → k < n → way_from s t w m d k ≡ At x → Slot t n x
+  way_slot : (x m d k : ℕ) → k < n → way_from s t w m d k ≡ Some x → Slot t n x
   unfolding way_from node_on
   way_slot x zero d k l h = no-at x h
   way_slot x (suc m) d k l h = go (same (node_name s t k) w) (get_or t (cell_of w d k) 0) refl h (way_slot x m (d + 1))
     where
-      go : (b : Bool) (a : ℕ) → get_or t (cell_of w d k) 0 ≡ a → pick b No (node_on a (cell_of w d k) (way_from s t w m (d + 1))) ≡ At x
-          → ((k : ℕ) → k < n → way_from s t w m (d + 1) k ≡ At x → Slot t n x) → Slot t n x
+      go : (b : Bool) (a : ℕ) → get_or t (cell_of w d k) 0 ≡ a → pick b None (node_on a (cell_of w d k) (way_from s t w m (d + 1))) ≡ Some x
+          → ((k : ℕ) → k < n → way_from s t w m (d + 1) k ≡ Some x → Slot t n x) → Slot t n x
       go true a e h r = no-at x h
       go false zero e h r = let q = at-is (cell_of w d k) x h in record { k = k; b = bit_of w d; low = turn_small w d; node = l; is = sym q; free = rw (← q) e }
       go false (suc a) e h r = r (suc a) (rw e at (tr.onto k (bit_of w d) (turn_small w d))) h
 
-  pub free-slot : (x : ℕ) → way s t w ≡ At x → Slot t n x
+  pub free-slot : (x : ℕ) → way s t w ≡ Some x → Slot t n x
   free-slot x h = way_slot x (length t) 0 0 tr.some h
 
-  way-node : (m d k : ℕ) → k < n → length t ≤ k + m → way_from s t w m d k ≡ No → (q : ℕ) × (q < n) × (same (node_name s t q) w ≡ true)
+  way-node : (m d k : ℕ) → k < n → length t ≤ k + m → way_from s t w m d k ≡ None → (q : ℕ) × (q < n) × (same (node_name s t q) w ≡ true)
   unfolding way_from node_on
   way-node zero d k l r h = let x = tr.fits in let y = tr.long in absurd (omega arith)
   way-node (suc m) d k l r h = go (same (node_name s t k) w) refl (get_or t (cell_of w d k) 0) refl h (way-node m (d + 1))
     where
-      go : (b : Bool) → same (node_name s t k) w ≡ b → (a : ℕ) → get_or t (cell_of w d k) 0 ≡ a → pick b No (node_on a (cell_of w d k) (way_from s t w m (d + 1))) ≡ No
-          → ((k : ℕ) → k < n → length t ≤ k + m → way_from s t w m (d + 1) k ≡ No → (q : ℕ) × (q < n) × (same (node_name s t q) w ≡ true))
+      go : (b : Bool) → same (node_name s t k) w ≡ b → (a : ℕ) → get_or t (cell_of w d k) 0 ≡ a → pick b None (node_on a (cell_of w d k) (way_from s t w m (d + 1))) ≡ None
+          → ((k : ℕ) → k < n → length t ≤ k + m → way_from s t w m (d + 1) k ≡ None → (q : ℕ) × (q < n) × (same (node_name s t q) w ≡ true))
           → (q : ℕ) × (q < n) × (same (node_name s t q) w ≡ true)
       go true p a e h f = (k, l, p)
       go false p zero e h f = no-at (cell_of w d k) (sym h)
@@ -123,26 +122,26 @@ module _ (s t w : List ℕ) (n : ℕ) (tr : NameTree s t n) where
           let i = tr.rises k (bit_of w d) (turn_small w d) (omega arith) in
           f (suc a) (omega arith) (omega arith) h
 
-  pub met-node : way s t w ≡ No → (q : ℕ) × (q < n) × (same (node_name s t q) w ≡ true)
+  pub met-node : way s t w ≡ None → (q : ℕ) × (q < n) × (same (node_name s t q) w ≡ true)
   met-node h = way-node (length t) 0 0 tr.some (omega arith) h
 
   pub way-starts : OnWay s t w n 0 0
   way-starts = record { left = length t; room = omega arith; node = tr.some; deep = omega arith; whole = refl }
 
   module _ (d k : ℕ) (on : OnWay s t w n d k) where
-    pub way-met : same (node_name s t k) w ≡ true → No ≡ way s t w
+    pub way-met : same (node_name s t k) w ≡ true → None ≡ way s t w
     unfolding way_from
     way-met p = go on.left on.whole
       where
-        go : (m : ℕ) → way_from s t w m d k ≡ way s t w → No ≡ way s t w
+        go : (m : ℕ) → way_from s t w m d k ≡ way s t w → None ≡ way s t w
         go zero q = q
         go (suc m) q = sym (rw p) ∙ q
 
-    pub way-ends : same (node_name s t k) w ≡ false → get_or t (cell_of w d k) 0 ≡ 0 → At (cell_of w d k) ≡ way s t w
+    pub way-ends : same (node_name s t k) w ≡ false → get_or t (cell_of w d k) 0 ≡ 0 → Some (cell_of w d k) ≡ way s t w
     unfolding way_from node_on
     way-ends p f = go on.left on.room on.whole
       where
-        go : (m : ℕ) → length t ≤ k + m → way_from s t w m d k ≡ way s t w → At (cell_of w d k) ≡ way s t w
+        go : (m : ℕ) → length t ≤ k + m → way_from s t w m d k ≡ way s t w → Some (cell_of w d k) ≡ way s t w
         go zero r q = let x = on.node in let y = tr.fits in let z = tr.long in absurd (omega arith)
         go (suc m) r q = sym (rw (p, f)) ∙ q
 
@@ -165,7 +164,7 @@ module _ (s t w : List ℕ) (n : ℕ) (tr : NameTree s t n) where
 
 -- ---- a new node
 
-module _ (s t : List ℕ) (n j e x : ℕ) (tr : NameTree s t n) (free : way s t (part s j (e - j)) ≡ At x) (room : n < nodes) where
+module _ (s t : List ℕ) (n j e x : ℕ) (tr : NameTree s t n) (free : way s t (part s j (e - j)) ≡ Some x) (room : n < nodes) where
   slot : Slot t n x
   slot = free-slot s t (part s j (e - j)) n tr x free
 
@@ -247,32 +246,32 @@ module _ (s t : List ℕ) (n j e x : ℕ) (tr : NameTree s t n) (free : way s t 
       let f = slot.free in
       hung-onto k (bit_of w d) (turn_small w d) (λ p. let i : get_or t (cell_of w d k) 0 ≡ 0 = rw p f in omega arith) ∙ q
 
-  way-was : (w : List ℕ) (m d k y : ℕ) → k < n → way_from s (hung t x n j e) w m d k ≡ At y → (z : ℕ) × (way_from s t w m d k ≡ At z)
+  way-was : (w : List ℕ) (m d k y : ℕ) → k < n → way_from s (hung t x n j e) w m d k ≡ Some y → (z : ℕ) × (way_from s t w m d k ≡ Some z)
   unfolding way_from node_on
   way-was w zero d k y l h = no-at y h
   way-was w (suc m) d k y l h = go (same (node_name s t k) w) (get_or t (cell_of w d k) 0) refl (rw (hung-old k (λ q. omega arith)) at h) (way-was w m (d + 1))
     where
       go : (b : Bool) (a : ℕ) → get_or t (cell_of w d k) 0 ≡ a
-          → pick b No (node_on (get_or (hung t x n j e) (cell_of w d k) 0) (cell_of w d k) (way_from s (hung t x n j e) w m (d + 1))) ≡ At y
-          → ((k y : ℕ) → k < n → way_from s (hung t x n j e) w m (d + 1) k ≡ At y → (z : ℕ) × (way_from s t w m (d + 1) k ≡ At z))
-          → (z : ℕ) × (pick b No (node_on a (cell_of w d k) (way_from s t w m (d + 1))) ≡ At z)
+          → pick b None (node_on (get_or (hung t x n j e) (cell_of w d k) 0) (cell_of w d k) (way_from s (hung t x n j e) w m (d + 1))) ≡ Some y
+          → ((k y : ℕ) → k < n → way_from s (hung t x n j e) w m (d + 1) k ≡ Some y → (z : ℕ) × (way_from s t w m (d + 1) k ≡ Some z))
+          → (z : ℕ) × (pick b None (node_on a (cell_of w d k) (way_from s t w m (d + 1))) ≡ Some z)
       go true a q h r = no-at y h
       go false zero q h r = (cell_of w d k, refl)
       go false (suc a) q h r = let o = tr.onto k (bit_of w d) (turn_small w d) in r (suc a) y (omega arith) (rw (hung-still w d k a q) at h)
 
-  way-not : (w : List ℕ) → w ≡ part s j (e - j) → (m d k y : ℕ) → k < n → way_from s t w m d k ≡ At x → way_from s (hung t x n j e) w m d k ≡ At y → ⊥
+  way-not : (w : List ℕ) → w ≡ part s j (e - j) → (m d k y : ℕ) → k < n → way_from s t w m d k ≡ Some x → way_from s (hung t x n j e) w m d k ≡ Some y → ⊥
   unfolding way_from node_on
   way-not w v zero d k y l g h = no-at y h
   way-not w v (suc m) d k y l g h = go (same (node_name s t k) w) (get_or t (cell_of w d k) 0) refl g (rw (hung-old k (λ q. omega arith)) at h) (way-not w v m (d + 1))
     where
-      new : (m d y : ℕ) → way_from s (hung t x n j e) w m d n ≡ At y → ⊥
+      new : (m d y : ℕ) → way_from s (hung t x n j e) w m d n ≡ Some y → ⊥
       new zero d y h = no-at y h
       new (suc m) d y h = no-at y (rw (hung-new, v, same_refl) at h)
 
       go : (b : Bool) (a : ℕ) → get_or t (cell_of w d k) 0 ≡ a
-          → pick b No (node_on a (cell_of w d k) (way_from s t w m (d + 1))) ≡ At x
-          → pick b No (node_on (get_or (hung t x n j e) (cell_of w d k) 0) (cell_of w d k) (way_from s (hung t x n j e) w m (d + 1))) ≡ At y
-          → ((k y : ℕ) → k < n → way_from s t w m (d + 1) k ≡ At x → way_from s (hung t x n j e) w m (d + 1) k ≡ At y → ⊥)
+          → pick b None (node_on a (cell_of w d k) (way_from s t w m (d + 1))) ≡ Some x
+          → pick b None (node_on (get_or (hung t x n j e) (cell_of w d k) 0) (cell_of w d k) (way_from s (hung t x n j e) w m (d + 1))) ≡ Some y
+          → ((k y : ℕ) → k < n → way_from s t w m (d + 1) k ≡ Some x → way_from s (hung t x n j e) w m (d + 1) k ≡ Some y → ⊥)
           → ⊥
       go true a q g h r = no-at y h
       go false zero q g h r =
@@ -281,10 +280,10 @@ module _ (s t : List ℕ) (n j e x : ℕ) (tr : NameTree s t n) (free : way s t 
           new m (d + 1) y (sym (onward-on n (cell_of w d k) (way_from s (hung t x n j e) w m (d + 1)) tr.some) ∙ (rw f at h))
       go false (suc a) q g h r = let o = tr.onto k (bit_of w d) (turn_small w d) in r (suc a) y (omega arith) g (rw (hung-still w d k a q) at h)
 
-  pub free_was : (w : List ℕ) (y : ℕ) → way s (hung t x n j e) w ≡ At y → (z : ℕ) × (way s t w ≡ At z)
+  pub free_was : (w : List ℕ) (y : ℕ) → way s (hung t x n j e) w ≡ Some y → (z : ℕ) × (way s t w ≡ Some z)
   free_was w y h = way-was w (length t) 0 0 y tr.some (rw hung-long at h)
 
-  pub free_other : (w : List ℕ) (y : ℕ) → way s (hung t x n j e) w ≡ At y → same (part s j (e - j)) w ≡ false
+  pub free_other : (w : List ℕ) (y : ℕ) → way s (hung t x n j e) w ≡ Some y → same (part s j (e - j)) w ≡ false
   free_other w y h = never (same (part s j (e - j)) w) no
     where
       no : same (part s j (e - j)) w ≡ true → ⊥

@@ -13,8 +13,7 @@ use lib.Dec.{eqb, leb}
 use borrow.Author.Tests.{leb-true, leb-false}
 use Rattle.octets.specs.Bytes.{pick, every}
 use Rattle.octets.specs.Digits.{value, all_digits, num_of}
-use Rattle.octets.specs.declared.Num.{Num}
-use Rattle.octets.specs.declared.Num.TheVariants.{Value, Bad}
+use Rattle.std.specs.Prelude.{Option, Some, None}
 use Rattle.octets.proofs.Tests.{either_way}
 use Rattle.parts.specs.Parts.{padded}
 use Rattle.parts.proofs.Padded.{padded-is}
@@ -52,11 +51,11 @@ record FirstPlaced (l : Locations) (codes : List ℕ) (ok : Bool) : Type 0 where
 abbrev codes : List (List ℕ) → List ℕ
 codes vs = map value (passing is_six vs)
 
-six-is : (v : List ℕ) → six_digits v ≡ pick (is_six v) (Value (value v)) Bad
+six-is : (v : List ℕ) → six_digits v ≡ pick (is_six v) (Some (value v)) None
 unfolding six_digits num_of
 six-is v = go (eqb (length v) 6) (all_digits v)
   where
-    go : (a b : Bool) → pick a (pick b (Value (value v)) Bad) Bad ≡ pick (a && b) (Value (value v)) Bad
+    go : (a b : Bool) → pick a (pick b (Some (value v)) None) None ≡ pick (a && b) (Some (value v)) None
     go true b = refl
     go false b = refl
 
@@ -103,7 +102,7 @@ one_placed : (x : Locations) (vs : List (List ℕ)) (v : List ℕ) → Locations
     → FirstPlaced (location_of x (six_digits v)) (codes (vs ++ (v ∷ []))) (every is_six (vs ++ (v ∷ [])))
 one_placed x vs v f h = rw (six-is v, codes-last vs v, every-last is_six vs v) (go (is_six v))
   where
-    go : (b : Bool) → FirstPlaced (location_of x (pick b (Value (value v)) Bad)) (codes vs ++ pick b (value v ∷ []) []) (every is_six vs && b)
+    go : (b : Bool) → FirstPlaced (location_of x (pick b (Some (value v)) None)) (codes vs ++ pick b (value v ∷ []) []) (every is_six vs && b)
     go true = rw (and-true (every is_six vs)) (placed-more x (value v) (codes vs) (every is_six vs) f h)
     go false = rw (append-nil (codes vs), and-false (every is_six vs)) (record { count = h.count; first = h.first; bad = refl })
 
@@ -139,9 +138,9 @@ module _ (s p : List ℕ) where
       Kept : Locations → Type 0
       Kept y = y.fault ≡ x.fault
 
-      kept : (n : Num) → Kept (location_of x n)
-      kept (Value v) = either_way Kept (leb 31 x.count) _ _ (λ _. refl) (λ _. refl)
-      kept Bad = refl
+      kept : (n : Option ℕ) → Kept (location_of x n)
+      kept (Some v) = either_way Kept (leb 31 x.count) _ _ (λ _. refl) (λ _. refl)
+      kept None = refl
 
   location-placed : (x : Locations) (ds : List Element) (e : Element) → AllReal s e.holds → pair_sound s p e ≡ true → LocationsFit x
       → FirstPlaced x (codes (said ds)) (every is_six (said ds))

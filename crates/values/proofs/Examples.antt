@@ -7,7 +7,7 @@ use Rattle.octets.specs.Bytes.{every, between, one_of, same, is_digit, is_space,
 use Rattle.octets.specs.Digits.{value_from, num_of}
 use Rattle.octets.specs.Scan.{scan_by}
 use Rattle.octets.specs.Text.{bytes}
-use Rattle.octets.specs.declared.Num.TheVariants.{Value, Bad}
+use Rattle.std.specs.Prelude.{Some, None}
 use Rattle.characters.specs.Utf8.{is_legal, encoded, utf8, written, scalar_at, width_at}
 use Rattle.pieces.specs.Classes.{is_plain, figure_of, is_figure}
 use Rattle.pieces.specs.Pieces.{in_note, note_at, worded_at, numeral_from, number_at, ref_at, char_at}
@@ -25,8 +25,8 @@ pub record Examples : Type 0 where
   pub reference-gap : said "&#32;a&#32;&#x9; b&#10;</" ≡ bytes "a b"
   pub refers : said "&lt;&amp; &quot;</" ≡ bytes "<& \""
   pub only-space : said " <!--x--> &#10;</" ≡ bytes ""
-  pub location : six_digits (said " 024031 </") ≡ Value 24031
-  pub too_long : six_digits (said "0240310</") ≡ Bad
+  pub location : six_digits (said " 024031 </") ≡ Some 24031
+  pub too_long : six_digits (said "0240310</") ≡ None
   pub accent : value_at (77 ∷ 195 ∷ 169 ∷ 120 ∷ 60 ∷ 47 ∷ []) 0 ≡ 77 ∷ 233 ∷ 120 ∷ []
   pub accent-by-reference : said "M&#xE9;x&#0000241;</" ≡ 77 ∷ 233 ∷ 120 ∷ 241 ∷ []
   pub accent-in-bytes : utf8 (said "M&#xE9;x&#x1F6A8;</") ≡ 77 ∷ 195 ∷ 169 ∷ 120 ∷ 240 ∷ 159 ∷ 154 ∷ 168 ∷ []

@@ -19,10 +19,7 @@ use Rattle.characters.proofs.Chars.{scalar-past}
 use Rattle.characters.proofs.Forms.{byte-in}
 use Rattle.pieces.specs.Classes.{is_plain}
 use Rattle.pieces.specs.Pieces.{note_at, char_at}
-use Rattle.pieces.specs.declared.End.{End}
-use Rattle.pieces.specs.declared.End.TheVariants.{At, No}
-use Rattle.pieces.specs.declared.Ref.{Ref}
-use Rattle.pieces.specs.declared.Ref.TheVariants.{Scalar, Wrong}
+use Rattle.std.specs.Prelude.{Option, Some, None}
 use Rattle.pieces.proofs.Goes.{Goes, PastGoes, RefGoes, note-goes, char-goes}
 use Rattle.pieces.proofs.Inside.{plain-no-reference, none-plain, plain-steps}
 use Rattle.values.specs.Chars.{met, passed, next_at, turn, fold, fold_at}
@@ -36,15 +33,15 @@ NextGoes s i (Char c j) = Goes s i j
 NextGoes s i (Over j) = Goes s i j
 NextGoes s i Last = Unit {0}
 
-met-goes : (s : List ℕ) (i : ℕ) (r : Ref) → RefGoes s i r → NextGoes s i (met r)
+met-goes : (s : List ℕ) (i : ℕ) (r : Option (ℕ × ℕ)) → RefGoes s i r → NextGoes s i (met r)
 unfolding met
-met-goes s i (Scalar c j) g = g
-met-goes s i Wrong g = tt
+met-goes s i (Some (c, j)) g = g
+met-goes s i None g = tt
 
-passed-goes : (s : List ℕ) (i : ℕ) (e : End) → PastGoes s i e → NextGoes s i (passed e)
+passed-goes : (s : List ℕ) (i : ℕ) (e : Option ℕ) → PastGoes s i e → NextGoes s i (passed e)
 unfolding passed
-passed-goes s i (At j) g = g
-passed-goes s i No g = tt
+passed-goes s i (Some j) g = g
+passed-goes s i None g = tt
 
 pub next-goes : (s : List ℕ) (i : ℕ) → NextGoes s i (next_at s i)
 unfolding next_at
@@ -66,12 +63,12 @@ unfolding next_at met char_at
 next_past s i h = let e : byte_at s i ≡ 0 = get_or-eq_default s 0 h in rw (e, scalar-past s i h, none-plain)
 
 module _ (s : List ℕ) (i : ℕ) where
-  tag-wrong : eqb (byte_at s i) 60 ≡ true → char_at s i ≡ Wrong
+  tag-wrong : eqb (byte_at s i) 60 ≡ true → char_at s i ≡ None
   unfolding char_at is_plain is_single is_legal between every one_of
   tag-wrong h = let e : scalar_at s i ≡ 60 = stands-for s i 60 refl (eqb-true (byte_at s i) 60 h) in rw e
 
   -- a character that pieces reads
-  pub char-next : (c j : ℕ) → char_at s i ≡ Scalar c j → next_at s i ≡ Char c j
+  pub char-next : (c j : ℕ) → char_at s i ≡ Some (c, j) → next_at s i ≡ Char c j
   unfolding next_at met
   char-next c j q = go (eqb (byte_at s i) 60) refl
     where
@@ -80,7 +77,7 @@ module _ (s : List ℕ) (i : ℕ) where
       go false h = rw q
 
   -- a character that stands for itself
-  pub plain-char : is_plain (scalar_at s i) ≡ true → char_at s i ≡ Scalar (scalar_at s i) (i + width (scalar_at s i))
+  pub plain-char : is_plain (scalar_at s i) ≡ true → char_at s i ≡ Some (scalar_at s i, i + width (scalar_at s i))
   unfolding char_at
   plain-char h = rw (ne_eqb (scalar_at s i) 38 (plain-no-reference (scalar_at s i) h), h)
 
@@ -90,26 +87,26 @@ module _ (s : List ℕ) (i : ℕ) where
       let e = single-is s i b in
       let p : is_plain (scalar_at s i) ≡ true = ap is_plain e ∙ h in
       let w : i + width (scalar_at s i) ≡ i + 1 = ap (λ (n : ℕ). i + n) (sym (plain-steps s i p).is ∙ single-width s i b) in
-      char-next (byte_at s i) (i + 1) (plain-char p ∙ ap₂ (λ (c j : ℕ). Scalar c j) e w)
+      char-next (byte_at s i) (i + 1) (plain-char p ∙ ap₂ (λ (c j : ℕ). Some (c, j)) e w)
 
   pub char-met : eqb (byte_at s i) 60 ≡ false → next_at s i ≡ met (char_at s i)
   unfolding next_at
   char-met h = rw h
 
   -- a tag is a comment or the end
-  pub tag-next : eqb (byte_at s i) 60 ≡ true → (e : End) → note_at s i ≡ e → next_at s i ≡ passed e
+  pub tag-next : eqb (byte_at s i) 60 ≡ true → (e : Option ℕ) → note_at s i ≡ e → next_at s i ≡ passed e
   unfolding next_at
   tag-next h e q = rw (h, q)
 
   -- which its second byte may tell
-  pub no_note : (byte_at s (i + 1) ≡ 33 → ⊥) → note_at s i ≡ No
+  pub no_note : (byte_at s (i + 1) ≡ 33 → ⊥) → note_at s i ≡ None
   unfolding note_at bytes
   no_note n = go (stands t s i) refl
     where
       t : List ℕ
       t = bytes "<!--"
 
-      go : (b : Bool) → stands t s i ≡ b → note_at s i ≡ No
+      go : (b : Bool) → stands t s i ≡ b → note_at s i ≡ None
       go true e = absurd (n (byte-in t s i 1 e (omega arith)))
       go false e = rw e
 

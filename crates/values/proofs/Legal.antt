@@ -8,10 +8,7 @@ use Rattle.octets.specs.Bytes.{every, between, one_of, byte_at, is_space}
 use Rattle.octets.proofs.Tests.{every-none, every-step, every_first, every_rest, either_way}
 use Rattle.characters.specs.Utf8.{is_legal}
 use Rattle.pieces.specs.Pieces.{note_at, char_at}
-use Rattle.pieces.specs.declared.End.{End}
-use Rattle.pieces.specs.declared.End.TheVariants.{At, No}
-use Rattle.pieces.specs.declared.Ref.{Ref}
-use Rattle.pieces.specs.declared.Ref.TheVariants.{Scalar, Wrong}
+use Rattle.std.specs.Prelude.{Option, Some, None}
 use Rattle.pieces.proofs.Legal.{char-legal}
 use Rattle.values.specs.Chars.{met, passed, next_at, text_at}
 use Rattle.values.specs.Value.{trimmed, spaced, runs, collapsed, value_at}
@@ -32,13 +29,13 @@ next-legal : (s : List ℕ) (i : ℕ) → NextLegal (next_at s i)
 unfolding next_at met passed
 next-legal s i = either_way NextLegal (eqb (byte_at s i) 60) _ _ (λ e. note (note_at s i)) (λ e. char (char_at s i) refl)
   where
-    note : (e : End) → NextLegal (passed e)
-    note (At j) = tt
-    note No = tt
+    note : (e : Option ℕ) → NextLegal (passed e)
+    note (Some j) = tt
+    note None = tt
 
-    char : (r : Ref) → char_at s i ≡ r → NextLegal (met r)
-    char (Scalar c j) e = char-legal s i c j e
-    char Wrong e = tt
+    char : (r : Option (ℕ × ℕ)) → char_at s i ≡ r → NextLegal (met r)
+    char (Some (c, j)) e = char-legal s i c j e
+    char None e = tt
 
 -- ---- a text
 

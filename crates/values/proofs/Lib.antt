@@ -1,3 +1,4 @@
+pub mod Absent
 pub mod Folds
 pub mod Texts
 pub mod Adds

@@ -25,13 +25,13 @@ use Rattle.calm.specs.WorkingCalm.{is_mark}
 use Rattle.pieces.proofs.Goes.{Goes}
 use Rattle.values.specs.Value.{value_at}
 use Rattle.values.specs.WorkingSteps.{rest_at, lead_at, step_at, low, onward, place_after, spelled_of}
-use Rattle.values.specs.declared.Got.TheVariants.{Is, Done}
+use Rattle.std.specs.Prelude.{Some, None}
 use Rattle.values.proofs.Legal.{rest-legal}
 use Rattle.values.proofs.Steps.{value-start, step-more, step-done, mark-step}
 
 -- a mark, which was seen to be one, is the next character
-pub mark-is : (s : List ℕ) (i b : ℕ) (t : Bool) → b ≡ byte_at s i → t ≡ is_mark b → t ≡ true → step_at s i ≡ Is b (i + 1)
-mark-is s i b t e m h = mark-step s i (ap is_mark (sym e) ∙ sym m ∙ h) ∙ ap (λ (x : ℕ). Is x (i + 1)) (sym e)
+pub mark-is : (s : List ℕ) (i b : ℕ) (t : Bool) → b ≡ byte_at s i → t ≡ is_mark b → t ≡ true → step_at s i ≡ Some (b, i + 1)
+mark-is s i b t e m h = mark-step s i (ap is_mark (sym e) ∙ sym m ∙ h) ∙ ap (λ (x : ℕ). Some (x, i + 1)) (sym e)
 
 pub record Reading (s v : List ℕ) (i k : ℕ) : Type 0 where
   pub rest : rest_at s i ≡ drop k v
@@ -54,7 +54,7 @@ pub read-starts : (s : List ℕ) (at : ℕ) → Reading s (value_at s at) (lead_
 read-starts s at = record { rest = value-start s at; within = omega arith; counts = omega arith }
 
 module _ {s v : List ℕ} {i k : ℕ} (r : Reading s v i k) where
-  pub read_more : (c j : ℕ) → step_at s i ≡ Is c j → More s v i k c j
+  pub read_more : (c j : ℕ) → step_at s i ≡ Some (c, j) → More s v i k c j
   read_more c j e =
       let m = step-more s i c j e in
       let g = m.1.on in
@@ -64,7 +64,7 @@ module _ {s v : List ℕ} {i k : ℕ} (r : Reading s v i k) where
       let t : drop k v ≡ get_or v k 0 ∷ drop (k + 1) v = tail_step v k l in
       record { goes = m.1; inside = l; front = cc; is = cc; reads = record { rest = cc; within = omega arith; counts = omega arith } }
 
-  pub read_done : step_at s i ≡ Done → k ≡ length v
+  pub read_done : step_at s i ≡ None → k ≡ length v
   read_done e =
       let q : [] ≡ drop k v = sym (step-done s i e) ∙ r.rest in
       let w = r.within in
@@ -194,17 +194,17 @@ pub record Spelling (s : List ℕ) (at g : ℕ) (d : List ℕ) (to : ℕ) (x : L
 pub spell-starts : (s : List ℕ) (at g : ℕ) (d : List ℕ) (to : ℕ) → Spelling s at g d to d at 0 to
 spell-starts s at g d to = record { reads = rest-starts s at; most = omega arith; long = refl; place = ap (λ (n : ℕ). place_after s n at) (sub-zero g); ends = refl; left = refl }
 
-after_more : (s : List ℕ) (n i c j : ℕ) → step_at s i ≡ Is c j → place_after s (suc n) i ≡ place_after s n j
+after_more : (s : List ℕ) (n i c j : ℕ) → step_at s i ≡ Some (c, j) → place_after s (suc n) i ≡ place_after s n j
 unfolding place_after onward
 after_more s n i c j e = rw e
 
-after-done : (s : List ℕ) (n i : ℕ) → step_at s i ≡ Done → place_after s n i ≡ i
+after-done : (s : List ℕ) (n i : ℕ) → step_at s i ≡ None → place_after s n i ≡ i
 unfolding place_after onward
 after-done s zero i e = refl
 after-done s (suc n) i e = rw e
 
 module _ {s : List ℕ} {at g : ℕ} {d : List ℕ} {to : ℕ} {x : List ℕ} {i k e : ℕ} (r : Spelling s at g d to x i k e) where
-  module _ (c j : ℕ) (q : step_at s i ≡ Is c j) (l : k < g) where
+  module _ (c j : ℕ) (q : step_at s i ≡ Some (c, j)) (l : k < g) where
     abbrev v : List ℕ
     v = rest_at s at
 
@@ -235,7 +235,7 @@ module _ {s : List ℕ} {at g : ℕ} {d : List ℕ} {to : ℕ} {x : List ℕ} {i
         }
 
   -- a mark is put at once
-  module _ (b : ℕ) (q : step_at s i ≡ Is b (i + 1)) (h : b < 128) (l : k < g) where
+  module _ (b : ℕ) (q : step_at s i ≡ Some (b, i + 1)) (h : b < 128) (l : k < g) where
     alone : e + width b ≡ e + 1
     alone = ap (λ (n : List ℕ). e + length n) (encoded-one b h)
 
@@ -254,7 +254,7 @@ module _ {s : List ℕ} {at g : ℕ} {d : List ℕ} {to : ℕ} {x : List ℕ} {i
       let f : e ≡ to + length (utf8 (take g v)) = omega (arith, r.ends, ap (λ (y : List ℕ). length (utf8 y)) none) in
       (cc, ap (λ (y : List ℕ). sets x e (utf8 y)) (sym none) ∙ r.left)
 
-  pub spell-done : step_at s i ≡ Done → Spelt
+  pub spell-done : step_at s i ≡ None → Spelt
   spell-done q = spelt (value-over r.reads r.most (read_done r.reads q)) (sym r.place ∙ after-done s (g - k) i q)
 
   pub spell-full : g ≤ k → Spelt
@@ -263,8 +263,8 @@ module _ {s : List ℕ} {at g : ℕ} {d : List ℕ} {to : ℕ} {x : List ℕ} {i
 
 -- ---- at most n characters are left
 
-pub exceeds-not : (s : List ℕ) (at : ℕ) {i k : ℕ} → Reading s (rest_at s at) i k → step_at s i ≡ Done → (n : ℕ) → k ≤ n → false ≡ ltb n (length (rest_at s at))
+pub exceeds-not : (s : List ℕ) (at : ℕ) {i k : ℕ} → Reading s (rest_at s at) i k → step_at s i ≡ None → (n : ℕ) → k ≤ n → false ≡ ltb n (length (rest_at s at))
 exceeds-not s at r e n h = let d = read_done r e in sym (le-ltb n (length (rest_at s at)) (omega arith))
 
-pub exceeds-so : (s : List ℕ) (at : ℕ) {i k : ℕ} → Reading s (rest_at s at) i k → (n : ℕ) → n < k → true ≡ ltb n (length (rest_at s at))
-exceeds-so s at r n h = let w = r.within in sym (lt-ltb n (length (rest_at s at)) (omega arith))
+pub exceeds-so : (s : List ℕ) (at : ℕ) {i k : ℕ} → Reading s (rest_at s at) i k → (c j : ℕ) → step_at s i ≡ Some (c, j) → (n : ℕ) → n ≤ k → true ≡ ltb n (length (rest_at s at))
+exceeds-so s at r c j e n h = let w = (read_more r c j e).inside in sym (lt-ltb n (length (rest_at s at)) (omega arith))

@@ -1,45 +1,34 @@
--- A value of which each character is of 32 to 126, read character by character.
---     print-starts, print-more     each that is read so far is such
---     print-low, print-high        one is not
---     print-done                   each is
-use Prim.Native.Nat.{ℕ, ◌+◌, ◌≤◌, ◌<◌}
+-- A value of which each character fits, read character by character.
+--     fit-starts, fit-more     each that is read so far fits
+--     fit-fails                one does not
+--     fit-done                 each does
+use Prim.Native.Nat.{ℕ, ◌+◌}
 use mathlib.Core.Path.{◌≡◌, refl, ap, ◌∙◌}
-use mathlib.Core.Bool.{false}
+use mathlib.Core.Bool.{Bool, true, false}
 use mathlib.Core.List.{List}
 use native.Mathlib.Omega.{arith}
 use lib.ListN.{length, drop}
 use Rattle.octets.specs.Bytes.{every}
 use Rattle.octets.proofs.Everys.{every-on, every-broken, every-ended}
-use Rattle.octets.proofs.Tests.{between_is, below-between, above-between}
 use Rattle.values.specs.Value.{value_at}
-use Rattle.values.specs.WorkingSteps.{lead_at, is_printable, printable_size}
+use Rattle.values.specs.WorkingSteps.{lead_at, size_if}
 use Rattle.values.proofs.Loops.{Reading, More, read-starts}
 
-pub record Printing (s v : List ℕ) (i k : ℕ) : Type 0 where
+pub record Fitting (p : ℕ → Bool) (s v : List ℕ) (i k : ℕ) : Type 0 where
   pub reads : Reading s v i k
-  pub left : every is_printable (drop k v) ≡ every is_printable v
+  pub left : every p (drop k v) ≡ every p v
 
-pub print-starts : (s : List ℕ) (at : ℕ) → Printing s (value_at s at) (lead_at s at) 0
-print-starts s at = record { reads = read-starts s at; left = refl }
+module _ {p : ℕ → Bool} where
+  pub fit-starts : (s : List ℕ) (at : ℕ) → Fitting p s (value_at s at) (lead_at s at) 0
+  fit-starts s at = record { reads = read-starts s at; left = refl }
 
-module _ {s v : List ℕ} {i k : ℕ} (r : Printing s v i k) where
-  module _ {c j : ℕ} (m : More s v i k c j) where
-    pub print-more : 32 ≤ c → c ≤ 126 → Printing s v j (k + 1)
-    print-more l h = record {
-      reads = m.reads;
-      left = every-on is_printable v k (every is_printable v) r.left m.inside (ap is_printable m.is ∙ between_is 32 126 c l h);
-    }
+  module _ {s v : List ℕ} {i k : ℕ} (r : Fitting p s v i k) where
+    module _ {c j : ℕ} (m : More s v i k c j) where
+      pub fit-more : p c ≡ true → Fitting p s v j (k + 1)
+      fit-more e = record { reads = m.reads; left = every-on p v k (every p v) r.left m.inside (ap p m.is ∙ e) }
 
-    none : is_printable c ≡ false → 0 ≡ printable_size v
-    unfolding printable_size
-    none e = rw (every-broken is_printable v k (every is_printable v) r.left m.inside (ap is_printable m.is ∙ e))
+      pub fit-fails : p c ≡ false → 0 ≡ size_if p v
+      fit-fails e = rw (every-broken p v k (every p v) r.left m.inside (ap p m.is ∙ e))
 
-    pub print-low : c < 32 → 0 ≡ printable_size v
-    print-low h = none (below-between 32 126 c h)
-
-    pub print-high : 126 < c → 0 ≡ printable_size v
-    print-high h = none (above-between 32 126 c h)
-
-  pub print-done : k ≡ length v → k ≡ printable_size v
-  unfolding printable_size
-  print-done e = rw (every-ended is_printable v k (every is_printable v) r.left (omega arith)) e
+    pub fit-done : k ≡ length v → k ≡ size_if p v
+    fit-done e = rw (every-ended p v k (every p v) r.left (omega arith)) e

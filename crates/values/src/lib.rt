@@ -1,16 +1,13 @@
 // The value of a leaf, read forward from the place where what it holds begins.
 #![tactic(auto)]
 
-ghost use Rattle.std.specs.Prelude.{◌≡◌, [], map, ◌+◌, ◌≤◌, length, take, ltb};
+ghost use Rattle.std.specs.Prelude.{◌≡◌, ℕ, Bool, [], map, ◌+◌, ◌≤◌, length, take, ltb};
 ghost use Rattle.std.proofs.lemmas.List.Edits.{sets};
 ghost use Rattle.octets.specs.Bytes.{same};
 ghost use Rattle.characters.specs.Utf8.{utf8};
 ghost use Rattle.values.specs.Chars.{met, next_at};
 ghost use Rattle.values.specs.Value.{value_at, small};
-ghost use Rattle.values.specs.WorkingSteps.{rest_at, lead_at, gap_at, step_at, form, low, printable_size, six_digits, spelled_of};
-
-use octets::Num;
-use pieces::{End, Ref};
+ghost use Rattle.values.specs.WorkingSteps.{rest_at, lead_at, gap_at, first_at, step_at, Computes, TakesPrintable, size_if, low, is_printable, printable_size, six_digits, spelled_of};
 
 // What stands at a place of a text: a character and where the next stands, a comment and where it ends, or the end.
 #[derive(Drop)]
@@ -18,13 +15,6 @@ pub enum Next {
     Char(u32, usize),
     Over(usize),
     Last,
-}
-
-// The next character of a value and where the one after it stands, or that there is none.
-#[derive(Drop)]
-pub enum Got {
-    Is(u32, usize),
-    Done,
 }
 
 // What was put of a value: how many characters, where their bytes end, and where the value goes on.
@@ -35,15 +25,23 @@ pub struct Spelled {
     pub next: usize,
 }
 
+// A character, where it stands, and where what follows it does.
+#[derive(Drop)]
+pub struct Found {
+    pub c: u32,
+    pub at: usize,
+    pub next: usize,
+}
+
 // ---- reading forward
 
 // A character as what stands next; where there is none, the end.
-fn next_of(r: Ref) -> Next
+fn next_of(r: Option<(u32, usize)>) -> Next
     ensures { result ≡ met r }
 {
     match r {
-        Ref::Scalar(c, j) => Next::Char(c, j),
-        Ref::Wrong => Next::Last,
+        Some((c, j)) => Next::Char(c, j),
+        None => Next::Last,
     }
 }
 
@@ -52,40 +50,48 @@ fn look(s: &[u8], at: usize) -> Next
     ensures { result ≡ next_at s.now at }
 {
     let b = octets::byte(s, at);
-    if b == 38 {
+    if b == b'&' {
         return next_of(pieces::reference(s, at));
     }
-    if b != 60 {
+    if b != b'<' {
         return next_of(pieces::character(s, at));
     }
-    if octets::byte(s, at + 1) != 33 {
+    if octets::byte(s, at + 1) != b'!' {
         return Next::Last;
     }
-    let n = pieces::note(s, at);
-    match n {
-        End::At(j) => Next::Over(j),
-        End::No => Next::Last,
+    match pieces::note(s, at) {
+        Some(j) => Next::Over(j),
+        None => Next::Last,
     }
 }
 
-// After white space: a space, if a character follows that is none.
-fn gap(s: &[u8], at: usize) -> Got
-    ensures { result ≡ gap_at s.now at }
+// The first character from `at` on that stops. Comments are passed over, as is every other character.
+// Not an iterator's loop: how many bytes a turn takes, `look` says.
+fn first<F: Fn(u32) -> bool>(s: &[u8], at: usize, stops: F) -> Option<Found>
+    requires { F.IsAlwaysCallable stops }
+    ensures { (p : ℕ → Bool) → Computes (F.post stops) p → result ≡ first_at p s.now at }
 {
     let mut i = at;
     loop {
-        let n = look(s, i);
-        match n {
+        match look(s, i) {
             Next::Char(c, j) => {
-                if !characters::is_space(c) {
-                    return Got::Is(32, i);
+                if stops(c) {
+                    return Some(Found { c, at: i, next: j });
                 }
                 i = j;
             }
             Next::Over(j) => i = j,
-            Next::Last => return Got::Done,
+            Next::Last => return None,
         }
     }
+}
+
+// After white space: a space, if a character follows that is none.
+fn gap(s: &[u8], at: usize) -> Option<(u32, usize)>
+    ensures { result ≡ gap_at s.now at }
+{
+    let f = first(s, at, |c| !characters::is_space(c))?;
+    Some((32, f.at))
 }
 
 // Where the first character of the value stands: here, at a mark.
@@ -95,42 +101,29 @@ pub fn lead(s: &[u8], at: usize) -> usize
     if calm::is_mark(octets::byte(s, at)) {
         return at;
     }
-    let g = gap(s, at);
-    match g {
-        Got::Is(_, j) => j,
-        Got::Done => s.len(),
-    }
+    gap(s, at).map_or(s.len(), |(_, j)| j)
 }
 
-fn slow(s: &[u8], at: usize) -> Got
+fn slow(s: &[u8], at: usize) -> Option<(u32, usize)>
     ensures { result ≡ step_at s.now at }
 {
-    let mut i = at;
-    loop {
-        let n = look(s, i);
-        match n {
-            Next::Char(c, j) => {
-                if characters::is_space(c) {
-                    return gap(s, j);
-                }
-                return Got::Is(c, j);
-            }
-            Next::Over(j) => i = j,
-            Next::Last => return Got::Done,
-        }
+    let f = first(s, at, |_| true)?;
+    if characters::is_space(f.c) {
+        return gap(s, f.next);
     }
+    Some((f.c, f.next))
 }
 
 // The next character of the value from a place in it: a mark, and white space before a mark, at once.
-pub fn step(s: &[u8], at: usize) -> Got
+pub fn step(s: &[u8], at: usize) -> Option<(u32, usize)>
     ensures { result ≡ step_at s.now at }
 {
     let b = octets::byte(s, at);
     if calm::is_mark(b) {
-        return Got::Is(b as u32, at + 1);
+        return Some((u32::from(b), at + 1));
     }
     if calm::is_calm(s, at) {
-        return Got::Is(32, at + 1);
+        return Some((32, at + 1));
     }
     slow(s, at)
 }
@@ -140,115 +133,90 @@ pub fn step(s: &[u8], at: usize) -> Got
 pub fn is_empty(s: &[u8], at: usize) -> bool
     ensures { result ≡ same (value_at s.now at) [] }
 {
-    if calm::is_mark(octets::byte(s, at)) {
-        return false;
-    }
-    let g = gap(s, at);
-    match g {
-        Got::Is(_, _) => false,
-        Got::Done => true,
+    !calm::is_mark(octets::byte(s, at)) && gap(s, at).is_none()
+}
+
+// How many characters the value has if each fits, as those of 32 to 126 do; 0 if one does not.
+// Not an iterator's loop: a turn takes a run of calm bytes, and then the character behind it, as wide as it may be.
+fn size_if<F: Fn(u32) -> bool>(s: &[u8], at: usize, fits: F) -> usize
+    requires { F.IsAlwaysCallable fits }
+    ensures { (p : ℕ → Bool) → Computes (F.post fits) p → TakesPrintable p → result ≡ size_if p (value_at s.now at) }
+{
+    let mut i = lead(s, at);
+    let mut k: usize = 0;
+    loop {
+        let n = calm::calm(s, i, s.len());
+        let Some((c, j)) = slow(s, i + n) else {
+            return k + n;
+        };
+        if !fits(c) {
+            return 0;
+        }
+        i = j;
+        k += n + 1;
     }
 }
 
-// How many characters the value has: runs of calm bytes, and what stands between them.
+// How many characters the value has.
 pub fn size(s: &[u8], at: usize) -> usize
     ensures { result ≡ length (value_at s.now at) }
 {
-    let mut i = lead(s, at);
-    let mut k: usize = 0;
-    loop {
-        let n = calm::calm(s, i, s.len());
-        let g = slow(s, i + n);
-        let Got::Is(_, j) = g else {
-            return k + n;
-        };
-        i = j;
-        k += n + 1;
-    }
+    size_if(s, at, |_| true)
 }
 
-// How many characters the value has if each is of 32 to 126, and 0 if one is not.
+fn is_printable(c: u32) -> bool
+    ensures { result ≡ is_printable c }
+{
+    matches!(c, 32..=126)
+}
+
+// How many characters the value has if each is of 32 to 126, and 0 if one is not: a number and no Option, as the definition `printable_size` has it.
 pub fn printable_size(s: &[u8], at: usize) -> usize
     ensures { result ≡ printable_size (value_at s.now at) }
 {
-    let mut i = lead(s, at);
-    let mut k: usize = 0;
-    loop {
-        let n = calm::calm(s, i, s.len());
-        let g = slow(s, i + n);
-        let Got::Is(c, j) = g else {
-            return k + n;
-        };
-        if c < 32 {
-            return 0;
-        }
-        if 126 < c {
-            return 0;
-        }
-        i = j;
-        k += n + 1;
-    }
+    size_if(s, at, is_printable)
 }
 
-fn form_of(any: bool, c: u32) -> u32
-    ensures { result ≡ form any c }
-{
-    if !any {
-        return c;
-    }
-    if c < 65 {
-        return c;
-    }
-    if c <= 90 { c + 32 } else { c }
-}
-
-// Whether the value is w, or is it in small letters. Most characters are marks, which stand for themselves.
-fn matches(s: &[u8], at: usize, w: &[u8], any: bool) -> bool
-    ensures { result ≡ same (map (form any) (value_at s.now at)) w.now }
+// Whether the value, each character in a form of it, is w.
+fn matches<F: Fn(u32) -> u32>(s: &[u8], at: usize, w: &[u8], form: F) -> bool
+    requires { F.IsAlwaysCallable form }
+    ensures { (f : ℕ → ℕ) → Computes (F.post form) f → result ≡ same (map f (value_at s.now at)) w.now }
 {
     let mut i = lead(s, at);
-    let mut k: usize = 0;
-    loop {
-        let b = octets::byte(s, i);
-        if calm::is_mark(b) {
-            if k == w.len() {
-                return false;
-            }
-            if form_of(any, b as u32) != (w[k] as u32) {
-                return false;
-            }
-            i += 1;
-            k += 1;
-            continue;
-        }
-        let g = slow(s, i);
-        let Got::Is(c, j) = g else {
-            return k == w.len();
-        };
-        if k == w.len() {
+    for b in w {
+        let Some((c, j)) = step(s, i) else {
             return false;
-        }
-        let y = w[k];
-        if form_of(any, c) != (y as u32) {
+        };
+        if form(c) != u32::from(*b) {
             return false;
         }
         i = j;
-        k += 1;
     }
+    step(s, i).is_none()
 }
 
 // Whether the value is w.
 pub fn equal(s: &[u8], at: usize, w: &[u8]) -> bool
     ensures { result ≡ same (value_at s.now at) w.now }
 {
-    matches(s, at, w, false)
+    matches(s, at, w, |c| c)
+}
+
+// A letter's small form.
+fn small(c: u32) -> u32
+    ensures { result ≡ small c }
+{
+    match c {
+        65..=90 => c + 32,
+        _ => c,
+    }
 }
 
 // Whether the value in small letters is w.
 pub fn equal_any_case(s: &[u8], at: usize, w: &[u8]) -> bool
     ensures { result ≡ same (map small (value_at s.now at)) w.now }
 {
-    matches(s, at, w, true)
+    matches(s, at, w, small)
 }
 
 // ---- a value that is asked for bytes
@@ -257,35 +225,24 @@ pub fn equal_any_case(s: &[u8], at: usize, w: &[u8]) -> bool
 pub fn low_of(c: u32) -> u8
     ensures { result ≡ low c }
 {
-    let b = (c % 256) as u8;
-    if c < 128 { b } else { 0 }
+    if c < 128 { c as u8 } else { 0 }
 }
 
-// Puts at most g characters of a value, from a place in it, into `out` at `to`, each as one byte, and says how many. Marks are put as they stand.
+// Puts at most g characters of a value, from a place in it, into `out` at `to`, each as one byte, and says how many.
 fn copy_rest(s: &[u8], at: usize, g: usize, out: &mut [u8], to: usize) -> usize
     requires { to + length (take g (rest_at s.now at)) ≤ length out.old }
     ensures value { result ≡ length (take g (rest_at s.now at)) }
     ensures out_after { out.new ≡ sets out.old to (map low (take g (rest_at s.now at))) }
 {
     let mut i = at;
-    let mut k: usize = 0;
-    while k < g {
-        let b = octets::byte(s, i);
-        if calm::is_mark(b) {
-            out[to + k] = b;
-            i += 1;
-            k += 1;
-            continue;
-        }
-        let x = slow(s, i);
-        let Got::Is(c, j) = x else {
+    for k in 0..g {
+        let Some((c, j)) = step(s, i) else {
             return k;
         };
         out[to + k] = low_of(c);
         i = j;
-        k += 1;
     }
-    k
+    g
 }
 
 // Puts at most g characters of the value into `out` at `to`, each as one byte, and says how many. What is copied is short, so that only the blocks it begins with are
@@ -302,13 +259,12 @@ pub fn copy(s: &[u8], at: usize, g: usize, out: &mut [u8], to: usize) -> usize
 }
 
 // The number that the value writes in six digits.
-pub fn six_digits(s: &[u8], at: usize) -> Num
+pub fn six_digits(s: &[u8], at: usize) -> Option<u32>
     ensures { result ≡ six_digits (value_at s.now at) }
 {
     let mut d = [0u8; 7];
-    let n = copy(s, at, 7, &mut d, 0);
-    if n != 6 {
-        return Num::Bad;
+    if copy(s, at, 7, &mut d, 0) != 6 {
+        return None;
     }
     octets::number(&d, 0, 6)
 }
@@ -316,38 +272,30 @@ pub fn six_digits(s: &[u8], at: usize) -> Num
 // ---- a value put into a text
 
 // Puts at most g characters of a value, from a place in it, into `out` from `to` on, in UTF-8.
+// Not an iterator's loop: a turn puts a run of calm bytes, and then the character behind it, as wide as it may be.
 pub fn spell(s: &[u8], at: usize, g: usize, out: &mut [u8], to: usize) -> Spelled
     requires { to + length (utf8 (take g (rest_at s.now at))) ≤ length out.old }
     ensures value { result ≡ spelled_of s.now at g to }
     ensures out_after { out.new ≡ sets out.old to (utf8 (take g (rest_at s.now at))) }
 {
-    let mut i = at;
-    let mut k: usize = 0;
-    let mut e = to;
+    let mut count: usize = 0;
+    let mut end = to;
+    let mut next = at;
     loop {
-        let n = calm::calm(s, i, g - k);
-        calm::put_calm(s, i, n, out, e);
-        i += n;
-        k += n;
-        e += n;
-        if k == g {
-            return Spelled {
-                count: k,
-                end: e,
-                next: i,
-            };
+        let n = calm::calm(s, next, g - count);
+        calm::put_calm(s, next, n, out, end);
+        count += n;
+        end += n;
+        next += n;
+        if count == g {
+            return Spelled { count, end, next };
         }
-        let x = slow(s, i);
-        let Got::Is(c, j) = x else {
-            return Spelled {
-                count: k,
-                end: e,
-                next: i,
-            };
+        let Some((c, j)) = slow(s, next) else {
+            return Spelled { count, end, next };
         };
-        e = characters::put_scalar(out, e, c);
-        i = j;
-        k += 1;
+        count += 1;
+        end = characters::put_scalar(out, end, c);
+        next = j;
     }
 }
 
@@ -356,14 +304,11 @@ pub fn exceeds(s: &[u8], at: usize, n: usize) -> bool
     ensures { result ≡ ltb n (length (rest_at s.now at)) }
 {
     let mut i = at;
-    let mut k: usize = 0;
-    while k <= n {
-        let g = step(s, i);
-        let Got::Is(_, j) = g else {
+    for _ in 0..n {
+        let Some((_, j)) = step(s, i) else {
             return false;
         };
         i = j;
-        k += 1;
     }
-    true
+    step(s, i).is_some()
 }

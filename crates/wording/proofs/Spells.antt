@@ -11,8 +11,7 @@ use Rattle.characters.specs.Utf8.{utf8}
 use Rattle.values.specs.Value.{value_at}
 use Rattle.values.specs.WorkingSteps.{rest_at, lead_at, step_at, onward, place_after, spelled_of}
 use Rattle.values.specs.declared.Spelled.{Spelled}
-use Rattle.values.specs.declared.Got.{Got}
-use Rattle.values.specs.declared.Got.TheVariants.{Is, Done}
+use Rattle.std.specs.Prelude.{Option, Some, None}
 use Rattle.values.proofs.Steps.{value-start, step-more, step-done}
 use Rattle.wording.specs.declared.Pen.{Pen}
 use Rattle.wording.proofs.Pens.{PenPut, pen-made}
@@ -22,9 +21,9 @@ unfolding place_after onward
 after-rest s zero i = refl
 after-rest s (suc n) i = go (step_at s i) refl (after-rest s n)
   where
-    go : (g : Got) → step_at s i ≡ g → ((j : ℕ) → rest_at s (place_after s n j) ≡ drop n (rest_at s j)) → rest_at s (onward i g (place_after s n)) ≡ drop (suc n) (rest_at s i)
-    go (Is c j) e f = f j ∙ sym (ap (drop (suc n)) (step-more s i c j e).0)
-    go Done e f = step-done s i e ∙ sym (ap (drop (suc n)) (step-done s i e))
+    go : (g : Option (ℕ × ℕ)) → step_at s i ≡ g → ((j : ℕ) → rest_at s (place_after s n j) ≡ drop n (rest_at s j)) → rest_at s (onward i g (place_after s n)) ≡ drop (suc n) (rest_at s i)
+    go (Some (c, j)) e f = f j ∙ sym (ap (drop (suc n)) (step-more s i c j e).0)
+    go None e f = step-done s i e ∙ sym (ap (drop (suc n)) (step-done s i e))
 
 -- what was spelled, part by part; v is what the value has left at the place i
 module _ (s : List ℕ) (i g to : ℕ) (r : Spelled) (v : List ℕ) (from : rest_at s i ≡ v) (e : r ≡ spelled_of s i g to) where

@@ -5,7 +5,7 @@
 use Prim.Native.Nat.{ℕ, ◌+◌, ◌≤◌, ◌<◌}
 use mathlib.Core.Bool.{Bool, true, false}
 use mathlib.Core.List.{List, [], ◌∷◌, ◌++◌}
-use mathlib.Core.Path.{◌≡◌, refl, ap}
+use mathlib.Core.Path.{◌≡◌, refl, sym, ap, ◌∙◌}
 use native.Mathlib.Omega.{arith}
 use lib.ListN.{length, take, length-append, length-take}
 use lib.Seq.{sets}
@@ -14,7 +14,6 @@ use Rattle.octets.proofs.Tests.{either_way}
 use Rattle.octets.specs.Bytes.{same}
 use Rattle.octets.specs.Text.{bytes}
 use Rattle.characters.specs.Utf8.{utf8}
-use Rattle.sentence.proofs.Puts.{put_all}
 use Rattle.wording.specs.Text.{most, plain, empty, after_space, phrase, room_of, last_parts, text_of}
 use Rattle.wording.specs.WorkingPen.{start_pen}
 use Rattle.wording.specs.declared.Pen.{Pen}
@@ -24,7 +23,7 @@ use Rattle.wording.proofs.Allotments.{parts-le, parts-full}
 
 -- what has been put at the very start
 pub put-start : {d ws x : List ℕ} {e : ℕ} → Run d 0 ws x e → (vs : List ℕ) → vs ≡ ws → (e ≡ length vs) × (x ≡ sets d 0 vs)
-put-start r vs s = let p = put_all r vs s in (omega (arith, p.0), p.1)
+put-start {d} {ws} {x} {e} r vs s = (omega (arith, r.ends, ap length s), r.is ∙ ap (sets d 0) (sym s))
 
 pub pen-start : {d ws x : List ℕ} {e : Pen} → Penned d start_pen ws x e → (vs : List ℕ) → vs ≡ ws → (e.at ≡ length (utf8 vs)) × (x ≡ sets d 0 (utf8 vs))
 pen-start r vs s = put-start (pen-run r) (utf8 vs) (ap utf8 s)

@@ -16,7 +16,8 @@ ghost use Rattle.wording.specs.WorkingPen.{start_pen, pen_after, Room, last_of};
 
 use parts::Body;
 
-// Where the next character goes: behind so many bytes, and behind so many characters.
+// Where the next character goes: behind so many bytes, and behind so many characters. A pen goes by value beside the output and holds none:
+// `put_first` and `put_plain` promise the pen and the output apart, and what `put_first` put is put over where it is nothing.
 #[derive(Drop)]
 pub struct Pen {
     pub at: usize,
@@ -43,10 +44,9 @@ fn put_words(t: &[u8], out: &mut [u8], pen: Pen) -> Pen
     ensures value { result ≡ pen_after pen t.now }
     ensures out_after { out.new ≡ sets out.old pen.at (utf8 t.now) }
 {
-    let from = pen.at;
-    octets::put_bytes(out, from, t);
+    octets::put_bytes(out, pen.at, t);
     Pen {
-        at: from + t.len(),
+        at: pen.at + t.len(),
         count: pen.count + t.len(),
     }
 }
@@ -71,9 +71,8 @@ fn put_spaced(s: &[u8], p: usize, g: usize, out: &mut [u8], pen: Pen) -> Along
     ensures next_value { rest_at s.now result.next ≡ drop g (value_at s.now p) }
     ensures out_after { out.new ≡ sets out.old pen.at (utf8 (32 ∷ take g (value_at s.now p))) }
 {
-    let at = pen.at;
-    octets::put_byte(out, at, 32);
-    let r = values::spell(s, values::lead(s, p), g, out, at + 1);
+    octets::put_byte(out, pen.at, b' ');
+    let r = values::spell(s, values::lead(s, p), g, out, pen.at + 1);
     Along {
         pen: Pen {
             at: r.end,
@@ -89,21 +88,11 @@ pub fn put_plain(s: &[u8], p: usize, out: &mut [u8], pen: Pen) -> Pen
     ensures value { result ≡ pen_after pen (take (most - pen.count) (after_space (value_at s.now p))) }
     ensures out_after { out.new ≡ sets out.old pen.at (utf8 (take (most - pen.count) (after_space (value_at s.now p)))) }
 {
-    if pen.count == 1800 {
-        return pen;
-    }
-    if values::is_empty(s, p) {
+    if pen.count == MOST || values::is_empty(s, p) {
         return pen;
     }
     let left = ROOM - pen.count;
-    let r = put_spaced(s, p, left, out, pen);
-    r.pen
-}
-
-fn less_three(g: usize) -> usize
-    ensures { result ≡ g - 3 }
-{
-    if g < 3 { 0 } else { g - 3 }
+    put_spaced(s, p, left, out, pen).pen
 }
 
 // Puts what a value has left from a place in it, or the mark if that is more than three characters.
@@ -115,8 +104,7 @@ fn put_last(s: &[u8], i: usize, out: &mut [u8], pen: Pen) -> Pen
     if values::exceeds(s, i, 3) {
         return put_words(b"***", out, pen);
     }
-    let at = pen.at;
-    let r = values::spell(s, i, 3, out, at);
+    let r = values::spell(s, i, 3, out, pen.at);
     Pen {
         at: r.end,
         count: pen.count + r.count,
@@ -134,7 +122,7 @@ fn put_part(s: &[u8], p: usize, g: usize, out: &mut [u8], pen: Pen) -> Pen
     if values::is_empty(s, p) {
         return pen;
     }
-    let a = put_spaced(s, p, less_three(g), out, pen);
+    let a = put_spaced(s, p, g.saturating_sub(3), out, pen);
     put_last(s, a.next, out, a.pen)
 }
 
@@ -143,16 +131,8 @@ fn given(n: usize, i: usize) -> usize
     requires { n ≤ 1798 }
     ensures { result ≡ given_to n i }
 {
-    let left = ROOM - n;
-    if i == 0 {
-        return left;
-    }
-    let a = left - 1;
-    let h = a / 2;
-    if i < a - h {
-        return a - i;
-    }
-    h
+    let a = ROOM - n - i.min(1);
+    a.saturating_sub(i).max(a / 2)
 }
 
 // Puts description and instruction. Only instruction is measured beforehand: it gets what description leaves.
@@ -206,6 +186,5 @@ pub fn write_text(
         return e.at;
     }
     let f = put_phrase(s, sender, out, e);
-    let r = put_parts(s, description, instruction, out, f);
-    r.at
+    put_parts(s, description, instruction, out, f).at
 }

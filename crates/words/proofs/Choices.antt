@@ -1,34 +1,65 @@
 -- A choice by words that are tried one behind another is the choice by the place of the name among them.
---     chosen     the answer at the name's place is the one of the first word that is the name
---     alike      two rules for the answers agree below a number, where their tables do
+--     chosen           the answer at the name's place is the one of the first word that is the name
+--     place-within     the place of a name is one of the words'
+--     alike            two rules for the answers agree below a number, where their tables do
 use Prim.Native.Nat.{ℕ, zero, suc, ◌<◌}
-use mathlib.Core.Path.{◌≡◌, refl, sym, ap, ◌∙◌}
+use mathlib.Core.Path.{◌≡◌, refl, sym, ap, subst⁻¹, ◌∙◌}
 use mathlib.Core.Bool.{Bool, true, false}
 use mathlib.Core.List.{List, [], ◌∷◌}
 use native.Mathlib.Omega.{arith}
-use lib.ListN.{get_or}
+use lib.ListN.{length, get_or}
+use Rattle.std.specs.Prelude.{Option, Some, None, option_map}
 use Rattle.octets.specs.Bytes.{pick, same}
 use Rattle.words.specs.WorkingWords.{which_of}
 
 module _ {A : Type 0} (none : A) where
   -- the answer of the first word that is w; a definition by a chain of tests is one
   abbrev pub choice : List (List ℕ) → List A → List ℕ → A
-  choice [] xs w = get_or xs 0 none
+  choice [] xs w = none
   choice (v ∷ vs) [] w = none
   choice (v ∷ vs) (x ∷ xs) w = pick (same w v) x (choice vs xs w)
 
-  turned : (b : Bool) (x : A) (xs : List A) (k : ℕ) {y : A} → get_or xs k none ≡ y → get_or (x ∷ xs) (pick b 0 (suc k)) none ≡ pick b x y
-  turned true x xs k h = refl
-  turned false x xs k h = h
+  -- the answer at a place that may be none
+  abbrev pub answer : List A → Option ℕ → A
+  answer xs None = none
+  answer xs (Some k) = get_or xs k none
 
-  at_place : (vs : List (List ℕ)) (xs : List A) (w : List ℕ) → get_or xs (which_of vs w) none ≡ choice vs xs w
+  no_answer : (o : Option ℕ) → answer [] o ≡ none
+  no_answer None = refl
+  no_answer (Some k) = refl
+
+  turned : (b : Bool) (x : A) (xs : List A) (o : Option ℕ) {y : A} → answer xs o ≡ y → answer (x ∷ xs) (pick b (Some 0) (option_map suc o)) ≡ pick b x y
+  turned true x xs o h = refl
+  turned false x xs None h = h
+  turned false x xs (Some k) h = h
+
+  at_place : (vs : List (List ℕ)) (xs : List A) (w : List ℕ) → answer xs (which_of vs w) ≡ choice vs xs w
   unfolding which_of
   at_place [] xs w = refl
-  at_place (v ∷ vs) [] w = refl
+  at_place (v ∷ vs) [] w = no_answer (which_of (v ∷ vs) w)
   at_place (v ∷ vs) (x ∷ xs) w = turned (same w v) x xs (which_of vs w) (at_place vs xs w)
 
-  pub chosen : (vs : List (List ℕ)) (xs : List A) (w : List ℕ) {k : ℕ} → k ≡ which_of vs w → get_or xs k none ≡ choice vs xs w
-  chosen vs xs w h = ap (λ (k : ℕ). get_or xs k none) h ∙ at_place vs xs w
+  pub chosen : (vs : List (List ℕ)) (xs : List A) (w : List ℕ) {o : Option ℕ} → o ≡ which_of vs w → answer xs o ≡ choice vs xs w
+  chosen vs xs w h = ap (λ (o : Option ℕ). answer xs o) h ∙ at_place vs xs w
+
+-- ---- a place is one of the words'
+
+abbrev Below : ℕ → Option ℕ → Type 0
+Below n None = Unit {0}
+Below n (Some k) = k < n
+
+one_more : (b : Bool) (n : ℕ) (o : Option ℕ) → Below n o → Below (suc n) (pick b (Some 0) (option_map suc o))
+one_more true n o h = omega arith
+one_more false n None h = tt
+one_more false n (Some k) h = omega arith
+
+place-below : (vs : List (List ℕ)) (w : List ℕ) → Below (length vs) (which_of vs w)
+unfolding which_of
+place-below [] w = tt
+place-below (v ∷ vs) w = one_more (same w v) (length vs) (which_of vs w) (place-below vs w)
+
+pub place-within : (vs : List (List ℕ)) (w : List ℕ) {k : ℕ} → Some k ≡ which_of vs w → k < length vs
+place-within vs w h = subst⁻¹ (λ (o : Option ℕ). Below (length vs) o) h (place-below vs w)
 
 -- ---- answers below a number
 

@@ -2,6 +2,7 @@
 use mathlib.Core.List.{List, [], ◌∷◌}
 use mathlib.Core.Path.{◌≡◌, refl}
 use Prim.Native.Nat.{ℕ}
+use Rattle.std.specs.Prelude.{Some, None}
 use Rattle.octets.specs.Bytes.{same}
 use Rattle.octets.specs.Text.{bytes}
 use Rattle.words.specs.WorkingWords.{words_of, which_of}
@@ -11,9 +12,9 @@ table = words_of (4 ∷ 6 ∷ 0 ∷ []) (bytes "sentsender")
 
 pub record Tables : Type 0 where
   pub words : table ≡ bytes "sent" ∷ bytes "sender" ∷ [] ∷ []
-  pub first : which_of table (bytes "sent") ≡ 0
-  pub second : which_of table (bytes "sender") ≡ 1
-  pub none : which_of table (bytes "send") ≡ 3
+  pub first : which_of table (bytes "sent") ≡ Some 0
+  pub second : which_of table (bytes "sender") ≡ Some 1
+  pub none : which_of table (bytes "send") ≡ None
   -- a length that goes beyond the end
   pub cut : words_of (4 ∷ 7 ∷ 1 ∷ []) (bytes "sentsender") ≡ bytes "sent" ∷ []
 

@@ -1,66 +1,86 @@
--- The place of a name among the words of a table, and the word at a place, as they are looked for.
---     over, cut, hit, miss, other               a is the name's place, and k words have been passed
---     none_over, none-cut, this, behind         a is the word, and i words have yet to be passed
+-- The first word of a table that a test takes, as it is looked for: the place of a name, and the word at a place.
+--     over, cut, hit, miss     k words have been passed, and what is left of the text is t
+--     place, nth               the test is for a name; the test is for a place
 use mathlib.Core.Path.{◌≡◌, refl, sym, ap, ◌∙◌}
-use mathlib.Core.Bool.{true, false}
+use mathlib.Core.Bool.{Bool, true, false}
 use mathlib.Core.List.{List, [], ◌∷◌}
-use Prim.Native.Nat.{ℕ, suc, ◌+◌, ◌-◌, ◌≤◌, ◌<◌}
+use Prim.Native.Nat.{ℕ, zero, suc, ◌+◌, ◌≤◌, ◌<◌}
+use native.Mathlib.Numerals.{add-one}
 use native.Mathlib.Omega.{arith}
-use lib.ListN.{length, get_or}
-use Rattle.octets.specs.Bytes.{same}
-use Rattle.octets.proofs.Sames.{same-long}
-use Rattle.words.specs.WorkingWords.{which_of}
-use Rattle.words.proofs.Tables.{left, here, rest, words-over, words-cut, words-next, length-here}
+use borrow.Author.Tests.{eq-eqb, ne_eqb}
+use lib.Dec.{eqb}
+use denote.Ref.{Bor}
+use lib.ListN.{length, drop, get_or}
+use Rattle.std.specs.List.{IsSplitAt}
+use Rattle.std.specs.Prelude.{Option, Some, None, option_map, unwrap_or}
+use Rattle.octets.specs.Bytes.{pick, same}
+use Rattle.words.specs.WorkingWords.{words_of, which_of, first_of}
+use Rattle.words.proofs.Tables.{left, words-over, words-cut, words-next}
 
-which-first : (x : List ℕ) (xs : List (List ℕ)) (w : List ℕ) → same w x ≡ true → which_of (x ∷ xs) w ≡ 0
-unfolding which_of
-which-first x xs w h = rw h
+module _ (p : ℕ → List ℕ → Bool) (k : ℕ) where
+  first-none : first_of p k [] ≡ None
+  unfolding first_of
+  first-none = refl
 
-which-later : (x : List ℕ) (xs : List (List ℕ)) (w : List ℕ) → same w x ≡ false → which_of (x ∷ xs) w ≡ suc (which_of xs w)
-unfolding which_of
-which-later x xs w h = rw h
+  module _ (x : List ℕ) (xs : List (List ℕ)) where
+    first-taken : p k x ≡ true → first_of p k (x ∷ xs) ≡ Some (k, x)
+    unfolding first_of
+    first-taken h = rw h
 
-which-none : (w : List ℕ) → which_of [] w ≡ 0
-unfolding which_of
-which-none w = refl
+    first-passed : p k x ≡ false → first_of p k (x ∷ xs) ≡ first_of p (k + 1) xs
+    unfolding first_of
+    first-passed h = rw (h, add-one)
 
-module _ (lens text : List ℕ) (k at : ℕ) (w : List ℕ) {a : ℕ} (l : k + which_of (left lens text k at) w ≡ a) where
-  place : (vs : List (List ℕ)) → left lens text k at ≡ vs → k + which_of vs w ≡ a
-  place vs e = sym (ap (λ (x : List (List ℕ)). k + which_of x w) e) ∙ l
+module _ (p : ℕ → List ℕ → Bool) (lens t : List ℕ) (k : ℕ) {a : Option (ℕ × List ℕ)} (l : first_of p k (left lens t k) ≡ a) where
+  from : (vs : List (List ℕ)) → left lens t k ≡ vs → first_of p k vs ≡ a
+  from vs e = sym (ap (λ (x : List (List ℕ)). first_of p k x) e) ∙ l
 
-  pub over : length lens ≤ k → k ≡ a
-  over h = omega (arith, place [] (words-over lens text k at h), which-none w)
+  pub over : length lens ≤ k → None ≡ a
+  over h = sym (first-none p k) ∙ from [] (words-over lens t k h)
 
-  pub cut : k < length lens → length text - at < get_or lens k 0 → k ≡ a
-  cut h s = omega (arith, place [] (words-cut lens text k at h s), which-none w)
+  module _ (n : ℕ) (h : k < length lens) (e : n ≡ get_or lens k 0) where
+    pub cut : length t < n → None ≡ a
+    cut s = sym (first-none p k) ∙ from [] (words-cut lens t k n h e s)
 
-  module _ (h : k < length lens) (s : get_or lens k 0 ≤ length text - at) where
-    pub hit : same w (here lens text k at) ≡ true → k ≡ a
-    hit e = omega (arith, place _ (words-next lens text k at h s), which-first (here lens text k at) (rest lens text k at) w e)
+    module _ (x u : List ℕ) (s : IsSplitAt t n x u) where
+      pub hit : p k x ≡ true → Some (k, x) ≡ a
+      hit y = sym (first-taken p k x (words_of (drop (k + 1) lens) u) y) ∙ from _ (words-next lens t k n h e x u s)
 
-    pub miss : same w (here lens text k at) ≡ false → k + 1 + which_of (rest lens text k at) w ≡ a
-    miss e = omega (arith, place _ (words-next lens text k at h s), which-later (here lens text k at) (rest lens text k at) w e)
+      pub miss : p k x ≡ false → first_of p (k + 1) (words_of (drop (k + 1) lens) u) ≡ a
+      miss y = sym (first-passed p k x (words_of (drop (k + 1) lens) u) y) ∙ from _ (words-next lens t k n h e x u s)
 
-    -- a word of another length is not the name
-    pub other : at ≤ length text → (get_or lens k 0 ≡ length w → ⊥) → k + 1 + which_of (rest lens text k at) w ≡ a
-    other m n = miss (same-long w (here lens text k at) (λ e. n (sym (e ∙ length-here lens text k at m s))))
+-- the test is for a name
+place_turn : (b : Bool) (k : ℕ) (x : List ℕ) (o : Option (ℕ × List ℕ)) (q : Option ℕ) → option_map (λ f. f.0) o ≡ option_map (λ j. suc k + j) q → option_map (λ f. f.0) (pick b (Some (k, x)) o) ≡ option_map (λ j. k + j) (pick b (Some 0) (option_map suc q))
+place_turn true k x o q h = ap Some (omega arith)
+place_turn false k x o None h = h
+place_turn false k x o (Some j) h = h ∙ ap Some (omega arith)
 
-module _ (lens text : List ℕ) (k at i : ℕ) {a : List ℕ} (l : get_or (left lens text k at) i [] ≡ a) where
-  found : (vs : List (List ℕ)) → left lens text k at ≡ vs → get_or vs i [] ≡ a
-  found vs e = sym (ap (λ (x : List (List ℕ)). get_or x i []) e) ∙ l
+place-from : (w : List ℕ) (k : ℕ) (xs : List (List ℕ)) → option_map (λ f. f.0) (first_of (λ _ x. same w x) k xs) ≡ option_map (λ j. k + j) (which_of xs w)
+unfolding first_of which_of
+place-from w k [] = refl
+place-from w k (x ∷ xs) = place_turn (same w x) k x _ _ (place-from w (suc k) xs)
 
-  pub none_over : length lens ≤ k → [] ≡ a
-  none_over h = found [] (words-over lens text k at h)
+none-on : (q : Option ℕ) → option_map (λ j. 0 + j) q ≡ q
+none-on None = refl
+none-on (Some j) = ap Some (omega arith)
 
-  pub none-cut : k < length lens → length text - at < get_or lens k 0 → [] ≡ a
-  none-cut h s = found [] (words-cut lens text k at h s)
+pub place : (w : List ℕ) (xs : List (List ℕ)) (o : Option (ℕ × Bor (List ℕ))) → option_map (λ f. (f.0, f.1.now)) o ≡ first_of (λ _ x. same w x) 0 xs → option_map (λ f. f.0) o ≡ which_of xs w
+place w xs o e = of_both o ∙ ap (λ (q : Option (ℕ × List ℕ)). option_map (λ f. f.0) q) e ∙ place-from w 0 xs ∙ none-on (which_of xs w)
+  where
+    of_both : (q : Option (ℕ × Bor (List ℕ))) → option_map (λ f. f.0) q ≡ option_map {T = ℕ × List ℕ} (λ f. f.0) (option_map (λ f. (f.0, f.1.now)) q)
+    of_both None = refl
+    of_both (Some f) = refl
 
-  module _ (h : k < length lens) (s : get_or lens k 0 ≤ length text - at) where
-    here-or-behind : (j : ℕ) → i ≡ j → get_or (here lens text k at ∷ rest lens text k at) j [] ≡ a
-    here-or-behind j e = sym (ap (λ (m : ℕ). get_or (here lens text k at ∷ rest lens text k at) m []) e) ∙ found _ (words-next lens text k at h s)
+-- the test is for a place
+nth_from : (i j k : ℕ) (xs : List (List ℕ)) → i ≡ k + j → unwrap_or (option_map (λ f. f.1) (first_of (λ m _. eqb m i) k xs)) [] ≡ get_or xs j []
+unfolding first_of
+nth_from i j k [] h = refl
+nth_from i zero k (x ∷ xs) h = rw (eq-eqb k i (omega arith))
+nth_from i (suc j) k (x ∷ xs) h = rw (ne_eqb k i (omega arith)) (nth_from i j (suc k) xs (omega arith))
 
-    pub this : i ≡ 0 → here lens text k at ≡ a
-    this e = here-or-behind 0 e
-
-    pub behind : (i ≡ 0 → ⊥) → get_or (rest lens text k at) (i - 1) [] ≡ a
-    behind n = here-or-behind (suc (i - 1)) (omega arith)
+pub nth : (i : ℕ) (xs : List (List ℕ)) (o : Option (ℕ × Bor (List ℕ))) → option_map (λ f. (f.0, f.1.now)) o ≡ first_of (λ m _. eqb m i) 0 xs → unwrap_or (option_map (λ f. f.1.now) o) [] ≡ get_or xs i []
+nth i xs o e = of_both o ∙ ap (λ (q : Option (ℕ × List ℕ)). unwrap_or (option_map (λ f. f.1) q) []) e ∙ nth_from i i 0 xs (omega arith)
+  where
+    of_both : (q : Option (ℕ × Bor (List ℕ))) → unwrap_or (option_map (λ f. f.1.now) q) [] ≡ unwrap_or (option_map {T = ℕ × List ℕ} (λ f. f.1) (option_map (λ f. (f.0, f.1.now)) q)) []
+    of_both None = refl
+    of_both (Some f) = refl

@@ -1,74 +1,55 @@
 // Tables of words: how long each is, and all of them one behind another. The place of a name in a table, and the word at a place.
-// Lengths stand apart from words so that a table that is written out is unrolled, and costs what a chain of tests does.
+// Lengths stand apart from words, and each call is to be inlined, so that a table that is written out is unrolled, and costs what a chain of tests does.
 #![tactic(auto)]
 
-ghost use Rattle.std.specs.Prelude.{◌≡◌, [], get_or};
+ghost use Rattle.std.specs.Prelude.{◌≡◌, ℕ, List, Bool, [], option_map, get_or};
 ghost use Rattle.values.specs.Value.{value_at};
-ghost use Rattle.words.specs.WorkingWords.{words_of, which_of};
+ghost use Rattle.words.specs.WorkingWords.{words_of, which_of, first_of};
 
-// The place of the first word that is the name; how many words there are where none is. A word of another length is passed over at once.
-pub fn which(name: &[u8], lens: &[u8], text: &[u8]) -> usize
+// The first word that is taken, by its place and its bytes, with that place.
+#[inline]
+fn first<'a, F: Fn(usize, &[u8]) -> bool>(
+    lens: &[u8],
+    text: &'a [u8],
+    takes: F,
+) -> Option<(usize, &'a [u8])>
+    requires { F.IsAlwaysCallable takes }
+    ensures { (p : ℕ → List ℕ → Bool) → ((k : _) (w : _) (r : _) → F.post takes k w r → r ≡ p k w.now) → option_map (λ f. (f.0, f.1.now)) result ≡ first_of p 0 (words_of lens.now text.now) }
+{
+    let mut rest = text;
+    for (k, n) in lens.iter().enumerate() {
+        let (word, behind) = rest.split_at_checked(usize::from(*n))?;
+        if takes(k, word) {
+            return Some((k, word));
+        }
+        rest = behind;
+    }
+    None
+}
+
+// The place of the first word that is the name.
+#[inline]
+pub fn which(name: &[u8], lens: &[u8], text: &[u8]) -> Option<usize>
     ensures { result ≡ which_of (words_of lens.now text.now) name.now }
 {
-    let mut k: usize = 0;
-    let mut at: usize = 0;
-    while k < lens.len() {
-        let n = lens[k] as usize;
-        if text.len() - at < n {
-            return k;
-        }
-        let to = at + n;
-        if n == name.len() {
-            if octets::equal(name, &text[at..to]) {
-                return k;
-            }
-        }
-        at = to;
-        k += 1;
-    }
-    k
+    first(lens, text, |_, word| octets::equal(name, word)).map(|(k, _)| k)
 }
 
 // The same for the value at a place of a message.
-pub fn which_value(s: &[u8], i: usize, lens: &[u8], text: &[u8]) -> usize
+#[inline]
+pub fn which_value(s: &[u8], i: usize, lens: &[u8], text: &[u8]) -> Option<usize>
     ensures { result ≡ which_of (words_of lens.now text.now) (value_at s.now i) }
 {
-    let mut k: usize = 0;
-    let mut at: usize = 0;
-    while k < lens.len() {
-        let n = lens[k] as usize;
-        if text.len() - at < n {
-            return k;
-        }
-        let to = at + n;
-        if values::equal(s, i, &text[at..to]) {
-            return k;
-        }
-        at = to;
-        k += 1;
-    }
-    k
+    first(lens, text, |_, word| values::equal(s, i, word)).map(|(k, _)| k)
 }
 
 // The word at place i, and nothing behind the last.
+#[inline]
 pub fn word<'a>(lens: &'a [u8], text: &'a [u8], i: usize) -> &'a [u8]
     ensures { result.now ≡ get_or (words_of lens.now text.now) i [] }
 {
-    let mut k: usize = 0;
-    let mut at: usize = 0;
-    let mut left = i;
-    while k < lens.len() {
-        let n = lens[k] as usize;
-        if text.len() - at < n {
-            return &text[0..0];
-        }
-        let to = at + n;
-        if left == 0 {
-            return &text[at..to];
-        }
-        at = to;
-        k += 1;
-        left -= 1;
+    match first(lens, text, |k, _| k == i) {
+        Some((_, word)) => word,
+        None => &[],
     }
-    &text[0..0]
 }

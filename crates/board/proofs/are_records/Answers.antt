@@ -1,26 +1,13 @@
-use mathlib.Core.Path.{refl, sym, ap, ◌∙◌}
-use native.Mathlib.Omega.{arith}
+-- Record by record, as the closure tests them.
+use Rattle.std.proofs.Common.{◌∙◌, rules, tests}
+use Rattle.std.proofs.lemmas.Iterator.{YieldsList-from_slice}
+use Rattle.std.proofs.lemmas.Iterator.Search.{all_from_yields_List}
 use Rattle.records.specs.Record.{record_ok}
-use Rattle.board.proofs.Boards.{records-on, records-stop, records-end}
+use Rattle.records.proofs.ZeroFill.{every-all}
+use Rattle.slots.specs.Slots.{recs}
 use Rattle.board.proofs.are_records.Goals as goal
-
-pub loop-i-init : goal.loop-i-init
-loop-i-init c = (omega arith, refl)
-
-pub returns-then-not-is_record : goal.returns-then-not-is_record
-returns-then-not-is_record c =
-    let l = c.loop-i in
-    let a = c.args in
-    records-stop a.s.now a.n l.i l.invariant.1 (sym (c.is_record.ensures ∙ ap record_ok c.record_at.ensures) ∙ c.if-not-is_record.true) (omega arith)
-
-pub loop-i-preserved : goal.loop-i-preserved
-loop-i-preserved c =
-    let l = c.loop-i in
-    let a = c.args in
-    (omega arith, records-on a.s.now a.n l.i l.invariant.1 (sym (c.is_record.ensures ∙ ap record_ok c.record_at.ensures) ∙ c.if-not-is_record.false) (omega arith))
 
 pub returns : goal.returns
 returns c =
-    let l = c.loop-i in
-    let a = c.args in
-    records-end a.s.now a.n l.i l.invariant.1 (omega arith)
+    let l = recs c.args.n c.args.s.now in
+    all_from_yields_List record_ok _ _ _ c.all.ensures.ran (YieldsList-from_slice l cc) (λ x b q k. search (rules, tests)) ∙ every-all record_ok l

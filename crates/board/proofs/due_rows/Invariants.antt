@@ -1,15 +1,16 @@
--- k rows stand, and the scan behind the last of their headers finds the next.
+-- count rows stand, and the scan behind the last of their headers finds the next.
 use Prim.Native.Nat.{◌-◌}
 use mathlib.Core.Path.{◌≡◌}
+use Rattle.std.specs.Prelude.{unwrap_or, IfSome, ◌<◌}
 use lib.ListN.{length}
-use Rattle.ledger.specs.WorkingBoard.{live, due}
+use Rattle.ledger.specs.WorkingBoard.{due}
 use Rattle.slots.specs.Slots.{recs}
-use Rattle.board.specs.WorkingMarks.{Marks}
 use Rattle.board.proofs.Finds.{Standing}
 use Rattle.board.proofs.due_rows.Given as goal
 
-abbrev pub invariant-loop-j : goal.invariant-loop-j
-invariant-loop-j l = Marks (live (recs l.n l.s)) (recs l.n l.s) l.marks × (length l.initial.rows ≡ 170) × Standing l.n l.s l.initial.rows l.rows l.k l.j
+abbrev pub invariant-loop-next : goal.invariant-loop-next
+invariant-loop-next l =
+    (length l.initial.rows ≡ 170) × IfSome l.next (λ j. j < l.marked.n) × Standing l.marked.n l.marked.s.now l.initial.rows l.rows l.count (unwrap_or l.next l.marked.n)
 
-abbrev pub decreases-loop-j : goal.decreases-loop-j
-decreases-loop-j l = length (due (recs l.n l.s)) - l.k
+abbrev pub decreases-loop-next : goal.decreases-loop-next
+decreases-loop-next l = length (due (recs l.marked.n l.marked.s.now)) - l.count

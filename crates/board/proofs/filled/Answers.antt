@@ -1,27 +1,17 @@
-use Prim.Native.Nat.{◌/◌}
-use mathlib.Core.Path.{refl}
-use native.Mathlib.Omega.{arith}
-use lib.ListN.{length}
-use Rattle.board.proofs.Boards.{filled-stop, filled_on, filled-end}
+-- What is taken is what stands before the first empty record.
+use Rattle.std.proofs.Common.{eqb, not, ◌/◌, length, ◌∙◌, rules, tests}
+use Rattle.std.proofs.lemmas.Iterator.{YieldsList-from_slice}
+use Rattle.std.proofs.lemmas.Iterator.Consumers.{count_from_yields_List}
+use Rattle.std.proofs.lemmas.Iterator.Search.{YieldsList-from_take_while}
+use Rattle.std.specs.Simd.{first_chunks}
+use Rattle.records.specs.Record.{kind}
+use Rattle.board.proofs.Boards.{filled-counted}
 use Rattle.board.proofs.filled.Goals as goal
-
-pub loop-i-init : goal.loop-i-init
-loop-i-init c = (refl, omega arith, omega arith)
-
-pub returns-then-s-at-eq0 : goal.returns-then-s-at-eq0
-returns-then-s-at-eq0 c =
-    let l = c.loop-i in
-    let a = c.args in
-    filled-stop a.s.now (length a.s.now / 384) l.i l.invariant.2 refl (omega arith) c.if-s-at-eq0.true
-
-pub loop-i-preserved : goal.loop-i-preserved
-loop-i-preserved c =
-    let l = c.loop-i in
-    let a = c.args in
-    (refl, omega arith, filled_on a.s.now (length a.s.now / 384) l.i l.invariant.2 (omega arith) c.if-s-at-eq0.false)
 
 pub returns : goal.returns
 returns c =
-    let l = c.loop-i in
-    let a = c.args in
-    filled-end a.s.now (length a.s.now / 384) l.i l.invariant.2 refl (omega arith) (omega arith)
+    let s = c.args.s.now in
+    let t = c.take_while.ensures in
+    count_from_yields_List c.take_while.result _ c.count.ensures.ran
+    (YieldsList-from_take_while _ (λ r. not (eqb (kind r) 0)) (YieldsList-from_slice (first_chunks 384 (length s / 384) s) cc) t.closure t.done (λ x b q k. search (rules, tests)))
+    ∙ filled-counted s

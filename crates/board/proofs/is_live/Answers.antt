@@ -15,15 +15,17 @@ returns-then-s-at-ne-NOTICE c =
     let a = c.args in
     not-a-notice (recs a.n a.s.now) (rec a.i a.s.now) (λ e. c.if-s-at-ne-NOTICE.true (sym (kind-rec a.s.now a.i) ∙ e))
 
-pub returns-then-holds : goal.returns-then-holds
-returns-then-holds c =
+pub returns-then-not-holds : goal.returns-then-not-holds
+returns-then-not-holds c =
     let a = c.args in
-    is-withdrawn (recs a.n a.s.now) (rec a.i a.s.now) (ap (λ (x : List ℕ). has x (recs a.n a.s.now)) (sym (c.withdrawal_of-w.ensures ∙ ap withdrawal (key-part a.s.now a.i))) ∙ sym c.holds.ensures ∙ c.if-holds.true)
-
-pub returns : goal.returns
-returns c =
-    let a = c.args in
-    live-by (recs a.n a.s.now) (rec a.i a.s.now) c.holds-2.result
+    let b = recs a.n a.s.now in
+    live-by b (rec a.i a.s.now) c.holds-then-not-holds.result
     (kind-rec a.s.now a.i ∙ c.if-s-at-ne-NOTICE.false)
-    (ap (λ (x : List ℕ). has x (recs a.n a.s.now)) (sym (c.withdrawal_of-w.ensures ∙ ap withdrawal (key-part a.s.now a.i))) ∙ sym c.holds.ensures ∙ c.if-holds.false)
-    (c.holds-2.ensures ∙ ap (λ (x : List ℕ). has x (recs a.n a.s.now)) c.aired_at-a.ensures)
+    (ap (λ (x : List ℕ). has x b) (sym (c.withdrawal_of-w.ensures ∙ ap withdrawal (key-part a.s.now a.i))) ∙ sym c.if-not-holds.ensures)
+    (c.holds-then-not-holds.ensures ∙ ap (λ (x : List ℕ). has x b) c.aired_at.ensures)
+
+pub returns-else-not-holds : goal.returns-else-not-holds
+returns-else-not-holds c =
+    let a = c.args in
+    let b = recs a.n a.s.now in
+    rw c.if-not-holds.false (is-withdrawn b (rec a.i a.s.now) (ap (λ (x : List ℕ). has x b) (sym (c.withdrawal_of-w.ensures ∙ ap withdrawal (key-part a.s.now a.i))) ∙ sym c.if-not-holds.ensures))

@@ -1,5 +1,5 @@
 -- Each mark before i says whether its record is live.
-use Prim.Native.Nat.{ℕ, ◌-◌, ◌≤◌, ◌<◌}
+use Prim.Native.Nat.{ℕ, ◌<◌}
 use mathlib.Core.Path.{◌≡◌}
 use lib.ListN.{length, get_or}
 use mathlib.Core.Bool.{false}
@@ -9,7 +9,4 @@ use Rattle.slots.specs.Slots.{recs}
 use Rattle.board.proofs.live_marks.Given as goal
 
 abbrev pub invariant-loop-i : goal.invariant-loop-i
-invariant-loop-i l = (l.i ≤ l.n) × (length l.marks ≡ 170) × ((j : ℕ) → j < l.i → get_or l.marks j false ≡ live (recs l.n l.s) (rec j l.s))
-
-abbrev pub decreases-loop-i : goal.decreases-loop-i
-decreases-loop-i l = l.n - l.i
+invariant-loop-i l = (length l.marks ≡ 170) × ((j : ℕ) → j < l.i → get_or l.marks j false ≡ live (recs l.n l.s) (rec j l.s))

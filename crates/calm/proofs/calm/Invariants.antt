@@ -1,10 +1,6 @@
 -- The calm blocks first, and then byte by byte.
-use Prim.Native.Nat.{◌-◌, ◌≤◌}
 use Rattle.calm.specs.WorkingCalm.{Calm}
 use Rattle.calm.proofs.calm.Given as goal
 
 abbrev pub invariant-loop-n : goal.invariant-loop-n
-invariant-loop-n l = (l.n ≤ l.g) × Calm l.s l.at l.n
-
-abbrev pub decreases-loop-n : goal.decreases-loop-n
-decreases-loop-n l = l.g - l.n
+invariant-loop-n l = Calm l.s l.at l.n

@@ -1,12 +1,8 @@
 -- White space is below 33, and a mark is not.
-use borrow.Author.Tests.{lt-ltb, le-ltb}
+use native.Mathlib.Omega.{arith}
 use Rattle.calm.specs.WorkingCalm.{soft}
 use Rattle.calm.proofs.softened.Goals as goal
 
-pub returns-then-b-lt33 : goal.returns-then-b-lt33
+pub returns : goal.returns
 unfolding soft
-returns-then-b-lt33 c = rw (lt-ltb _ _ c.if-b-lt33.true)
-
-pub returns-else-b-lt33 : goal.returns-else-b-lt33
-unfolding soft
-returns-else-b-lt33 c = rw (le-ltb _ _ c.if-b-lt33.false)
+returns c = grind arith

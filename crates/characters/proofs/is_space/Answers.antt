@@ -1,6 +1,8 @@
 -- No white space is above 32.
+use mathlib.Core.Path.{◌∙◌}
+use borrow.Author.Tests.{lt-leb}
 use Rattle.characters.proofs.Legals.{space-high}
 use Rattle.characters.proofs.is_space.Goals as goal
 
-pub returns-then-c-gt32 : goal.returns-then-c-gt32
-returns-then-c-gt32 c = space-high c.args.c c.if-c-gt32.true
+pub returns-else-c-le32 : goal.returns-else-c-le32
+returns-else-c-le32 c = lt-leb _ _ c.if-c-le32.false ∙ space-high c.args.c c.if-c-le32.false

@@ -8,6 +8,6 @@ pub returns-then-c-eq0 : goal.returns-then-c-eq0
 unfolding width_at
 returns-then-c-eq0 c = rw (sym c.scalar-c.ensures ∙ c.if-c-eq0.true)
 
-pub returns : goal.returns
+pub returns-else-c-eq0 : goal.returns-else-c-eq0
 unfolding width_at
-returns c = rw (← c.scalar-c.ensures, ne_eqb c.scalar-c.result 0 c.if-c-eq0.false) c.bytes_of.ensures
+returns-else-c-eq0 c = rw (← c.scalar-c.ensures, ne_eqb c.scalar-c.result 0 c.if-c-eq0.false) c.bytes_of.ensures

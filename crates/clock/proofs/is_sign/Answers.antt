@@ -1,14 +1,13 @@
--- One test for each of the two signs.
-use mathlib.Core.Bool.{or-false}
-use borrow.Author.Tests.{eq-eqb, ne_eqb}
+-- Each of the two signs, and a byte that is neither.
+use Rattle.std.proofs.Common.{rules, tests}
 use Rattle.octets.specs.Bytes.{one_of}
 use Rattle.clock.specs.Time.{is_sign}
 use Rattle.clock.proofs.is_sign.Goals as goal
 
-pub returns-then-b-eq43 : goal.returns-then-b-eq43
+pub returns-in-43 : goal.returns-in-43
 unfolding is_sign one_of
-returns-then-b-eq43 c = simp (eq-eqb _ _ c.if-b-eq43.true)
+returns-in-43 c = search (rules, tests)
 
-pub returns : goal.returns
+pub returns-in_default : goal.returns-in_default
 unfolding is_sign one_of
-returns c = rw (ne_eqb _ _ c.if-b-eq43.false, or-false)
+returns-in_default c = search (rules, tests)

@@ -9,8 +9,8 @@ use Rattle.header.proofs.Lengths.{length-header}
 use Rattle.convert.specs.WorkingConvert.{station_header}
 use Rattle.convert.proofs.put_header.Goals as goal
 
-pub eight_at-named-requires : goal.eight_at-named-requires
-eight_at-named-requires c = omega (arith, station-long _ c.requires.station_value)
+pub bytes_at-station-requires : goal.bytes_at-station-requires
+bytes_at-station-requires c = omega (arith, station-long _ c.requires.station_value)
 
 pub put_header-requires : goal.put_header-requires
 put_header-requires c = let h = has _ c.requires.b_value in record { count_bound = h.few; count_in_bounds = omega (arith, h.few, c.requires.in_bounds) }
@@ -25,5 +25,5 @@ pub returns : goal.returns
 returns c =
     let a = c.args in
     let station = a.station.now in
-    let named = c.eight_at-named.ensures ∙ take_all 8 station (omega (arith, station-long station c.requires.station_value)) in
+    let named = c.bytes_at-station.ensures ∙ take_all 8 station (omega (arith, station-long station c.requires.station_value)) in
     record { value = sym (length-header (record { body = a.b; station = station }) c.requires.b_value c.requires.station_value); out_after = c.put_header.ensures ∙ ap (λ (w : List ℕ). sets a.out.now 0 (station_header w a.b)) named }

@@ -7,4 +7,4 @@ use Rattle.convert.proofs.write_header.Goals as goal
 pub returns : goal.returns
 unfolding header_answer_of header_by bytes
 returns c =
-    record { value = rw (c.put_header-headed.ensures.value, c.equal-carried.ensures); out_after = c.put_header-headed.ensures.out_after }
+    record { value = rw (c.put_header.ensures.value, c.equal.ensures); out_after = c.put_header.ensures.out_after }

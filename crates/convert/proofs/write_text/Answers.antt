@@ -6,4 +6,4 @@ use Rattle.convert.proofs.write_text.Goals as goal
 pub returns : goal.returns
 unfolding text_answer_of text_by
 returns c =
-    record { value = rw (c.put_uri-linked.ensures.value, c.put_text-worded.ensures.value); text_after = c.put_text-worded.ensures.out_after; uri_after = c.put_uri-linked.ensures.out_after }
+    record { value = rw (c.put_uri.ensures.value, c.put_text.ensures.value); text_after = c.put_text.ensures.out_after; uri_after = c.put_uri.ensures.out_after }

@@ -5,7 +5,7 @@ use Prim.Native.Nat.{ℕ}
 use lib.ListN.{replicate, length-take}
 use Rattle.values.specs.Value.{value_at}
 use Rattle.fields.specs.Fields.{identity_ok}
-use Rattle.fields.proofs.Buffers.{copy-fits, copied-back}
+use Rattle.fields.proofs.Buffers.{copy-fits, copied-long, copied-front}
 use Rattle.fields.proofs.Identities.{identity-copied}
 use Rattle.fields.proofs.identity_at.Goals as goal
 
@@ -15,9 +15,14 @@ copy-n-requires c = simp length-take (omega arith)
 pub slice_bounds-is_identity-end : goal.slice_bounds-is_identity-end
 slice_bounds-is_identity-end c =
     let a = c.args in
+    copied-long (replicate {A = ℕ} 65 0) (value_at a.s.now a.at) _ _ _ refl c.copy-n.ensures.out_after c.copy-n.ensures.value
+
+pub slice_bounds-b-end : goal.slice_bounds-b-end
+slice_bounds-b-end c =
+    let a = c.args in
     copy-fits (replicate {A = ℕ} 65 0) (value_at a.s.now a.at) _ _ _ refl c.copy-n.ensures.out_after c.copy-n.ensures.value
 
 pub returns : goal.returns
 returns c =
     let a = c.args in
-    c.is_identity.ensures ∙ ap identity_ok (copied-back (replicate {A = ℕ} 65 0) (value_at a.s.now a.at) _ _ _ refl c.copy-n.ensures.out_after c.copy-n.ensures.value) ∙ identity-copied _
+    c.is_identity.ensures ∙ ap identity_ok (copied-front (replicate {A = ℕ} 65 0) (value_at a.s.now a.at) _ _ _ refl c.copy-n.ensures.out_after c.copy-n.ensures.value) ∙ identity-copied _

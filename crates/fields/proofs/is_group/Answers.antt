@@ -1,32 +1,10 @@
 -- The parts between the commas are the group's; where a comma is missing, the part behind it is empty, and so none.
 use mathlib.Core.Path.{sym, ◌∙◌}
 use native.Mathlib.Omega.{arith}
-use Rattle.fields.proofs.Groups.{Parted, group-no, time-decides, first-in, no-first, no_second, parted, sender-as, identifier-as, sent-as}
+use lib.ListN.{length-take}
+use Rattle.fields.proofs.Groups.{group-no, time-decides, first-in, no-first, no_second, parted, sender-as, identifier-as, sent-as}
 use Rattle.fields.proofs.is_group.Goals as goal
-
--- both commas are there
-parts : (c : goal.Else-b-t) → Parted c.args.t.now c.comma-a.result c.comma-b.result
-parts c = parted _ _ c.comma-a.ensures c.if-a-t.false _ c.comma-b.ensures c.if-b-t.false
-
--- both commas are there
-parts-at-Then-not-is_identity : (c : goal.Then-not-is_identity) → Parted c.args.t.now c.comma-a.result c.comma-b.result
-parts-at-Then-not-is_identity c = parted _ _ c.comma-a.ensures c.if-a-t.false _ c.comma-b.ensures c.if-b-t.false
-
--- both commas are there
-parts-at-Else-not-is_identity : (c : goal.Else-not-is_identity) → Parted c.args.t.now c.comma-a.result c.comma-b.result
-parts-at-Else-not-is_identity c = parted _ _ c.comma-a.ensures c.if-a-t.false _ c.comma-b.ensures c.if-b-t.false
-
--- both commas are there
-parts-at-Then-not-is_identity-2 : (c : goal.Then-not-is_identity-2) → Parted c.args.t.now c.comma-a.result c.comma-b.result
-parts-at-Then-not-is_identity-2 c = parted _ _ c.comma-a.ensures c.if-a-t.false _ c.comma-b.ensures c.if-b-t.false
-
--- both commas are there
-parts-at-Else-not-is_identity-2 : (c : goal.Else-not-is_identity-2) → Parted c.args.t.now c.comma-a.result c.comma-b.result
-parts-at-Else-not-is_identity-2 c = parted _ _ c.comma-a.ensures c.if-a-t.false _ c.comma-b.ensures c.if-b-t.false
-
--- both commas are there
-parts-at-After-is_time : (c : goal.After-is_time) → Parted c.args.t.now c.comma-a.result c.comma-b.result
-parts-at-After-is_time c = parted _ _ c.comma-a.ensures c.if-a-t.false _ c.comma-b.ensures c.if-b-t.false
+use Rattle.fields.proofs.is_group.Goals.{then-is_identity, else-is_identity}
 
 pub returns-then-a-t : goal.returns-then-a-t
 returns-then-a-t c = sym (no-first _ _ c.comma-a.ensures c.if-a-t.true)
@@ -38,30 +16,46 @@ pub returns-then-b-t : goal.returns-then-b-t
 returns-then-b-t c = sym (no_second _ _ c.comma-a.ensures _ c.comma-b.ensures c.if-b-t.true)
 
 pub slice_bounds-is_identity-end : goal.slice_bounds-is_identity-end
-slice_bounds-is_identity-end c = let g = parts c in omega arith
+slice_bounds-is_identity-end c =
+    let g = parted _ _ c.comma-a.ensures c.if-a-t.false _ c.comma-b.ensures c.if-b-t.false in
+    simp length-take (omega (arith, g.order, g.inside))
 
-pub returns-then-not-is_identity : goal.returns-then-not-is_identity
-returns-then-not-is_identity c = sym (group-no 0 _ (sender-as (parts-at-Then-not-is_identity c) c.is_identity.ensures ∙ c.if-not-is_identity.true))
-
-pub slice_bounds-is_identity-end-2 : goal.slice_bounds-is_identity-end-2
-slice_bounds-is_identity-end-2 c = let g = parts-at-Else-not-is_identity c in omega arith
-
-pub returns-then-not-is_identity-2 : goal.returns-then-not-is_identity-2
-returns-then-not-is_identity-2 c = sym (group-no 1 _ (identifier-as (parts-at-Then-not-is_identity-2 c) c.is_identity-2.ensures ∙ c.if-not-is_identity-2.true))
+pub slice_bounds-is_identity-end-then-is_identity : goal.slice_bounds-is_identity-end-then-is_identity
+slice_bounds-is_identity-end-then-is_identity c =
+    let g = parted _ _ c.comma-a.ensures c.if-a-t.false _ c.comma-b.ensures c.if-b-t.false in
+    omega (arith, g.order, g.inside)
 
 pub overflow_add-b : goal.overflow_add-b
-overflow_add-b c = let g = parts-at-Else-not-is_identity-2 c in omega arith
+overflow_add-b c =
+    let g = parted _ _ c.comma-a.ensures c.if-a-t.false _ c.comma-b.ensures c.if-b-t.false in
+    omega (arith, g.order, g.inside)
 
 pub slice_bounds-instant-count : goal.slice_bounds-instant-count
-slice_bounds-instant-count c = let g = parts-at-Else-not-is_identity-2 c in omega arith
+slice_bounds-instant-count c =
+    let g = parted _ _ c.comma-a.ensures c.if-a-t.false _ c.comma-b.ensures c.if-b-t.false in
+    omega (arith, g.order, g.inside)
 
 pub slice_bounds-instant-start : goal.slice_bounds-instant-start
-slice_bounds-instant-start c = let g = parts-at-Else-not-is_identity-2 c in omega arith
+slice_bounds-instant-start c =
+    let g = parted _ _ c.comma-a.ensures c.if-a-t.false _ c.comma-b.ensures c.if-b-t.false in
+    omega (arith, g.order, g.inside)
 
-pub returns : goal.returns
-returns c =
-    let g = parts-at-After-is_time c in
-    sym (time-decides _
-    (sender-as g c.is_identity.ensures ∙ c.if-not-is_identity.false)
-    (identifier-as g c.is_identity-2.ensures ∙ c.if-not-is_identity-2.false)
-    ∙ sent-as g c.instant-sent.ensures c.is_time.ensures)
+pub returns-then-is_identity-2 : goal.returns-then-is_identity-2
+returns-then-is_identity-2 c =
+    let g = parted _ _ c.comma-a.ensures c.if-a-t.false _ c.comma-b.ensures c.if-b-t.false in
+    elim c.if-is_identity.branch [
+      | then-is_identity w ↦ sym (time-decides _
+          (sender-as g c.is_identity.ensures ∙ w.if-is_identity.true)
+          (identifier-as g w.is_identity-then-is_identity.ensures ∙ sym w.value-is ∙ c.if-is_identity-2.true)
+          ∙ sent-as g _ c.instant.ensures (sym c.is_some.ensures))
+      | else-is_identity w ↦ cc
+    ]
+
+pub returns-else-is_identity-2 : goal.returns-else-is_identity-2
+returns-else-is_identity-2 c =
+    let g = parted _ _ c.comma-a.ensures c.if-a-t.false _ c.comma-b.ensures c.if-b-t.false in
+    elim c.if-is_identity.branch [
+      | then-is_identity w ↦ c.if-is_identity-2.false
+          ∙ sym (group-no 1 _ (identifier-as g w.is_identity-then-is_identity.ensures ∙ sym w.value-is ∙ c.if-is_identity-2.false))
+      | else-is_identity w ↦ c.if-is_identity-2.false ∙ sym (group-no 0 _ (sender-as g c.is_identity.ensures ∙ w.if-is_identity.false))
+    ]

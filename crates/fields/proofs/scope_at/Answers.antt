@@ -1,22 +1,32 @@
 -- The value's place in the table, counted from 1.
-use mathlib.Core.Path.{refl}
+use Prim.Native.Nat.{◌<◌}
+use mathlib.Core.Path.{◌≡◌, refl, sym, ap, ◌∙◌}
+use native.Mathlib.Omega.{arith}
+use Rattle.std.specs.Prelude.{Some}
+use Rattle.words.proofs.Choices.{place-within}
 use Rattle.octets.specs.Text.{bytes}
-use Rattle.values.specs.Value.{value_at}
 use Rattle.words.specs.WorkingWords.{words_of}
-use Rattle.fields.specs.WorkingFields.{index_in, scopes}
-use Rattle.fields.proofs.Places.{Counted, counted}
+use Rattle.fields.specs.WorkingFields.{scopes, scope_place}
+use Rattle.fields.proofs.Places.{from_one, counted}
 use Rattle.fields.proofs.scope_at.Goals as goal
 
-told : (c : goal.Then-k-lt3) → let a = c.args in Counted 3 c.which_value-k.result (index_in scopes (value_at a.s.now a.at))
+pub returns-in_err-which_value : goal.returns-in_err-which_value
 unfolding bytes words_of
-told c = counted scopes _ _ refl c.which_value-k.ensures
+returns-in_err-which_value c = ap scope_place c.from_residual.ensures ∙ ap from_one (sym c.in_err-which_value.was) ∙ counted scopes _ _ refl c.which_value.ensures
 
-told-at-Else-k-lt3 : (c : goal.Else-k-lt3) → let a = c.args in Counted 3 c.which_value-k.result (index_in scopes (value_at a.s.now a.at))
+pub returns-in-0 : goal.returns-in-0
 unfolding bytes words_of
-told-at-Else-k-lt3 c = counted scopes _ _ refl c.which_value-k.ensures
+returns-in-0 c = sym (ap from_one (c.in_ok-which_value.was ∙ ap Some c.in-0.is)) ∙ counted scopes _ _ refl c.which_value.ensures
 
-pub returns-then-k-lt3 : goal.returns-then-k-lt3
-returns-then-k-lt3 c = (told c).inside c.if-k-lt3.true
+pub returns-in-1 : goal.returns-in-1
+unfolding bytes words_of
+returns-in-1 c = sym (ap from_one (c.in_ok-which_value.was ∙ ap Some c.in-1.is)) ∙ counted scopes _ _ refl c.which_value.ensures
 
-pub returns : goal.returns
-returns c = (told-at-Else-k-lt3 c).past c.if-k-lt3.false
+-- as a place is below three, it is the last
+pub returns-in_default : goal.returns-in_default
+unfolding bytes words_of
+returns-in_default c =
+    let k = c.in_ok-which_value.field-0 in
+    let l : k < 3 = place-within _ _ (sym c.in_ok-which_value.was ∙ c.which_value.ensures) in
+    let e : k ≡ 2 = omega arith in
+    sym (ap from_one (c.in_ok-which_value.was ∙ ap Some e)) ∙ counted scopes _ _ refl c.which_value.ensures

@@ -1,22 +1,40 @@
 -- The value's place in the table, counted from 1.
-use mathlib.Core.Path.{refl}
+use Prim.Native.Nat.{◌<◌}
+use mathlib.Core.Path.{◌≡◌, refl, sym, ap, ◌∙◌}
+use native.Mathlib.Omega.{arith}
+use Rattle.std.specs.Prelude.{Some}
+use Rattle.words.proofs.Choices.{place-within}
 use Rattle.octets.specs.Text.{bytes}
-use Rattle.values.specs.Value.{value_at}
 use Rattle.words.specs.WorkingWords.{words_of}
-use Rattle.fields.specs.WorkingFields.{index_in, statuses}
-use Rattle.fields.proofs.Places.{Counted, counted}
+use Rattle.fields.specs.WorkingFields.{statuses, status_place}
+use Rattle.fields.proofs.Places.{from_one, counted}
 use Rattle.fields.proofs.status_at.Goals as goal
 
-told : (c : goal.Then-k-lt5) → let a = c.args in Counted 5 c.which_value-k.result (index_in statuses (value_at a.s.now a.at))
+pub returns-in_err-which_value : goal.returns-in_err-which_value
 unfolding bytes words_of
-told c = counted statuses _ _ refl c.which_value-k.ensures
+returns-in_err-which_value c = ap status_place c.from_residual.ensures ∙ ap from_one (sym c.in_err-which_value.was) ∙ counted statuses _ _ refl c.which_value.ensures
 
-told-at-Else-k-lt5 : (c : goal.Else-k-lt5) → let a = c.args in Counted 5 c.which_value-k.result (index_in statuses (value_at a.s.now a.at))
+pub returns-in-0 : goal.returns-in-0
 unfolding bytes words_of
-told-at-Else-k-lt5 c = counted statuses _ _ refl c.which_value-k.ensures
+returns-in-0 c = sym (ap from_one (c.in_ok-which_value.was ∙ ap Some c.in-0.is)) ∙ counted statuses _ _ refl c.which_value.ensures
 
-pub returns-then-k-lt5 : goal.returns-then-k-lt5
-returns-then-k-lt5 c = (told c).inside c.if-k-lt5.true
+pub returns-in-1 : goal.returns-in-1
+unfolding bytes words_of
+returns-in-1 c = sym (ap from_one (c.in_ok-which_value.was ∙ ap Some c.in-1.is)) ∙ counted statuses _ _ refl c.which_value.ensures
 
-pub returns : goal.returns
-returns c = (told-at-Else-k-lt5 c).past c.if-k-lt5.false
+pub returns-in-2 : goal.returns-in-2
+unfolding bytes words_of
+returns-in-2 c = sym (ap from_one (c.in_ok-which_value.was ∙ ap Some c.in-2.is)) ∙ counted statuses _ _ refl c.which_value.ensures
+
+pub returns-in-3 : goal.returns-in-3
+unfolding bytes words_of
+returns-in-3 c = sym (ap from_one (c.in_ok-which_value.was ∙ ap Some c.in-3.is)) ∙ counted statuses _ _ refl c.which_value.ensures
+
+-- as a place is below five, it is the last
+pub returns-in_default : goal.returns-in_default
+unfolding bytes words_of
+returns-in_default c =
+    let k = c.in_ok-which_value.field-0 in
+    let l : k < 5 = place-within _ _ (sym c.in_ok-which_value.was ∙ c.which_value.ensures) in
+    let e : k ≡ 4 = omega arith in
+    sym (ap from_one (c.in_ok-which_value.was ∙ ap Some e)) ∙ counted statuses _ _ refl c.which_value.ensures

@@ -10,8 +10,8 @@ pub returns-then-not-stands_at : goal.returns-then-not-stands_at
 unfolding bytes
 returns-then-not-stands_at c = sym (head-refused 0 _ (sym c.stands_at.ensures ∙ c.if-not-stands_at.true))
 
-pub returns-in_default : goal.returns-in_default
-returns-in_default c = sym (head-refused 1 _ (ap is_known (sym c.originator_of.ensures ∙ c.in_default.is)))
+pub returns-in_err-originator : goal.returns-in_err-originator
+returns-in_err-originator c = c.from_residual.ensures ∙ sym (head-refused 1 _ (ap is_known (sym c.originator_of.ensures ∙ c.in_err-originator.was)))
 
 pub returns-then-s-ne45 : goal.returns-then-s-ne45
 returns-then-s-ne45 c = sym (head-refused 2 _ (ne_eqb _ _ c.if-s-ne45.true))
@@ -22,5 +22,5 @@ returns-then-not-event_ok c = sym (head-refused 3 _ (sym c.event_ok.ensures ∙ 
 pub returns : goal.returns
 unfolding bytes
 returns c =
-    let o = sym c.originator_of.ensures ∙ c.in-Known.is in
+    let o = sym c.originator_of.ensures ∙ c.in_ok-originator.was in
     sym (head-taken _ _ (sym c.stands_at.ensures ∙ c.if-not-stands_at.false, (ap is_known o, (eq-eqb _ _ c.if-s-ne45.false, (sym c.event_ok.ensures ∙ c.if-not-event_ok.false, tt)))) o)

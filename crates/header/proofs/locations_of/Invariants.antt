@@ -1,5 +1,5 @@
 -- Behind k locations the rest decides, and the list has the first k.
-use Prim.Native.Nat.{◌+◌, ◌-◌, ◌*◌, ◌≤◌}
+use Prim.Native.Nat.{◌+◌, ◌-◌, ◌*◌}
 use mathlib.Core.Path.{◌≡◌}
 use lib.ListN.{length}
 use lib.Seq.{sets}
@@ -8,11 +8,8 @@ use Rattle.parts.specs.Parts.{padded}
 use Rattle.header.proofs.locations_of.Given as goal
 
 abbrev pub invariant-loop-k : goal.invariant-loop-k
-invariant-loop-k l =
-    (l.k ≤ l.n)
-    × (length l.list ≡ 31)
-    × (locations_form (l.n - l.k) l.s (l.at + 7 * l.k) ≡ locations_form l.n l.s l.at)
-    × (sets l.list l.k (locations_of (l.n - l.k) l.s (l.at + 7 * l.k)) ≡ padded (locations_of l.n l.s l.at))
-
-abbrev pub decreases-loop-k : goal.decreases-loop-k
-decreases-loop-k l = l.n - l.k
+invariant-loop-k l = record {
+  long : length l.list ≡ 31;
+  form : locations_form (l.n - l.k) l.s (l.at + 7 * l.k) ≡ locations_form l.n l.s l.at;
+  list : sets l.list l.k (locations_of (l.n - l.k) l.s (l.at + 7 * l.k)) ≡ padded (locations_of l.n l.s l.at);
+}

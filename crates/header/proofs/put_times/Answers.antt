@@ -13,8 +13,9 @@ pub returns : goal.returns
 unfolding times_bytes
 returns c =
     let a = c.args in
+    let b = a.b.now in
     let one = and (begin a.out.now a.at) (43 ∷ []) _ (a.at + 1) refl c.put_byte.ensures in
-    let two = and one (tttt a.period) _ (a.at + 5) (omega (arith, length-tttt a.period)) c.put_tttt.ensures in
+    let two = and one (tttt b.period) _ (a.at + 5) (omega (arith, length-tttt b.period)) c.put_tttt.ensures in
     let three = and two (45 ∷ []) _ (a.at + 6) (omega arith) c.put_byte-2.ensures in
-    let four = and three (jjjhhmm a.day a.hour a.minute) _ (a.at + 13) (omega (arith, length-jjjhhmm a.day a.hour a.minute)) c.put_jjjhhmm.ensures in
+    let four = and three (jjjhhmm b.day b.hour b.minute) _ (a.at + 13) (omega (arith, length-jjjhhmm b.day b.hour b.minute)) c.put_jjjhhmm.ensures in
     simp append_assoc at (c.put_byte-3.ensures ∙ goes_on four (45 ∷ []))

@@ -5,6 +5,7 @@ use mathlib.Core.Bool.{true, false}
 use native.Mathlib.Omega.{arith}
 use borrow.Author.Tests.{eq-eqb, ne_eqb}
 use lib.ListN.{replicate, length-take}
+use Rattle.std.proofs.lemmas.List.{length-take-le}
 use Rattle.values.specs.Value.{value_at}
 use Rattle.values.proofs.Copies.{keeps}
 use Rattle.parts.specs.Parts.{event_ok}
@@ -16,7 +17,7 @@ use Rattle.judgement.proofs.event_of.Goals as goal
 
 pub returns-then-l-ne1 : goal.returns-then-l-ne1
 unfolding event_of event_is
-returns-then-l-ne1 c = rw (ne_eqb _ _ c.if-l-ne1.true) c.no_event.ensures
+returns-then-l-ne1 c = rw (ne_eqb _ _ c.if-l-ne1.true)
 
 pub copy-n-requires : goal.copy-n-requires
 copy-n-requires c = simp length-take (omega arith)
@@ -24,7 +25,7 @@ copy-n-requires c = simp length-take (omega arith)
 pub slice_bounds-event_ok-end : goal.slice_bounds-event_ok-end
 slice_bounds-event_ok-end c =
     let a = c.args in
-    copy-fits (replicate {A = ℕ} 4 0) (value_at a.s.now a.l.at) _ _ _ refl c.copy-n.ensures.out_after c.copy-n.ensures.value
+    sym (length-take-le _ _ (copy-fits (replicate {A = ℕ} 4 0) (value_at a.s.now a.l.at) _ _ _ refl c.copy-n.ensures.out_after c.copy-n.ensures.value))
 
 pub returns-then-not-event_ok : goal.returns-then-not-event_ok
 unfolding event_of event_is
@@ -32,7 +33,7 @@ returns-then-not-event_ok c =
     let a = c.args in
     let v = value_at a.s.now a.l.at in
     let bad : event_ok v ≡ false = sym (event-judged v _ _ c.copy-n.ensures.out_after c.copy-n.ensures.value _ c.event_ok.ensures) ∙ c.if-not-event_ok.true in
-    rw (eq-eqb _ _ c.if-l-ne1.false, bad) c.no_event-then-not-event_ok.ensures
+    rw (eq-eqb _ _ c.if-l-ne1.false, bad)
 
 pub returns : goal.returns
 unfolding event_of event_is
@@ -41,5 +42,5 @@ returns c =
     let v = value_at a.s.now a.l.at in
     let ok : event_ok v ≡ true = sym (event-judged v _ _ c.copy-n.ensures.out_after c.copy-n.ensures.value _ c.event_ok.ensures) ∙ c.if-not-event_ok.false in
     let n = three-of v _ _ c.copy-n.ensures.out_after c.copy-n.ensures.value (event-long v ok) in
-    let code = c.three_at-code.ensures ∙ three_back v _ _ c.copy-n.ensures.out_after c.copy-n.ensures.value n ∙ keeps v (event-kept v ok) in
+    let code = c.bytes_at.ensures ∙ three_back v _ _ c.copy-n.ensures.out_after c.copy-n.ensures.value n ∙ keeps v (event-kept v ok) in
     rw (eq-eqb _ _ c.if-l-ne1.false, ok, code)

@@ -1,13 +1,13 @@
--- One that is bad decides; else the count does.
+-- Both tests, as the code has them.
 use mathlib.Core.Bool.{and-true}
 use Rattle.octets.specs.Bytes.{every}
 use Rattle.judgement.specs.WorkingRules.{located}
 use Rattle.judgement.proofs.is_located.Goals as goal
 
-pub returns-then-l : goal.returns-then-l
+pub returns-then-not-l : goal.returns-then-not-l
 unfolding located every
-returns-then-l c = rw c.if-l.true
+returns-then-not-l c = rw (c.if-not-l.true, and-true)
 
-pub returns : goal.returns
+pub returns-else-not-l : goal.returns-else-not-l
 unfolding located every
-returns c = rw (c.if-l.false, and-true)
+returns-else-not-l c = rw c.if-not-l.false

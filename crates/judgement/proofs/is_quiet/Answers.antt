@@ -3,10 +3,10 @@ use mathlib.Core.Path.{sym, ◌∙◌}
 use Rattle.judgement.specs.WorkingRules.{quiet_of}
 use Rattle.judgement.proofs.is_quiet.Goals as goal
 
-pub returns-then-not-is_cancel : goal.returns-then-not-is_cancel
+pub returns-then-is_cancel : goal.returns-then-is_cancel
 unfolding quiet_of
-returns-then-not-is_cancel c = rw (sym c.is_cancel.ensures ∙ c.if-not-is_cancel.true)
+returns-then-is_cancel c = rw (sym c.is_cancel.ensures ∙ c.if-is_cancel.true, c.is_complete.ensures)
 
-pub returns : goal.returns
+pub returns-else-is_cancel : goal.returns-else-is_cancel
 unfolding quiet_of
-returns c = rw (sym c.is_cancel.ensures ∙ c.if-not-is_cancel.false, c.is_complete.ensures)
+returns-else-is_cancel c = rw (sym c.is_cancel.ensures, c.if-is_cancel.false)

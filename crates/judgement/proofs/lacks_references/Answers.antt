@@ -3,10 +3,10 @@ use mathlib.Core.Path.{sym, ◌∙◌}
 use Rattle.judgement.specs.WorkingRules.{lacks_references}
 use Rattle.judgement.proofs.lacks_references.Goals as goal
 
-pub returns-then-not-asks_references : goal.returns-then-not-asks_references
+pub returns-then-asks_references : goal.returns-then-asks_references
 unfolding lacks_references
-returns-then-not-asks_references c = rw (sym c.asks_references.ensures ∙ c.if-not-asks_references.true)
+returns-then-asks_references c = rw (sym c.asks_references.ensures ∙ c.if-asks_references.true, c.has_references.ensures)
 
-pub returns : goal.returns
+pub returns-else-asks_references : goal.returns-else-asks_references
 unfolding lacks_references
-returns c = rw (sym c.asks_references.ensures ∙ c.if-not-asks_references.false, c.has_references.ensures)
+returns-else-asks_references c = rw (sym c.asks_references.ensures ∙ c.if-asks_references.false) c.if-asks_references.false

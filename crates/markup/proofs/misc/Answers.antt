@@ -1,34 +1,12 @@
-use mathlib.Core.Path.{sym, ◌∙◌}
-use native.Mathlib.Omega.{arith}
-use Rattle.markup.proofs.Miscs.{going-starts, going_on, going-moves, going-stops, going-stuck}
+use Rattle.std.proofs.Common.{rules, ◌≡◌}
+use Rattle.pieces.specs.declared.Step.TheVariants.{Go}
+use Rattle.markup.specs.Document.{misc_step, misc_at}
+use Rattle.markup.proofs.Goes.{misc-forward}
 use Rattle.markup.proofs.misc.Goals as goal
 
-pub loop-j-init : goal.loop-j-init
-loop-j-init c = going-starts c.args.s.now c.args.at
+pub walk-requires-clause-forward : goal.walk-requires-clause-forward
+walk-requires-clause-forward c = λ i j p. let e : Go j ≡ misc_step c.args.s.now i = search rules in misc-forward c.args.s.now i j e
 
-pub loop-j-smaller : goal.loop-j-smaller
-loop-j-smaller c =
-    let a = c.args in
-    let l = c.loop-j in
-    let g = going_on a.s.now a.at l.i l.invariant c.in-Go.j (sym c.misc_step-b.ensures ∙ c.in-Go.is) in
-    let g1 = g.on in
-    let g2 = g.in-it in
-    omega arith
-
-pub loop-j-preserved : goal.loop-j-preserved
-loop-j-preserved c =
-    let a = c.args in
-    let l = c.loop-j in
-    going-moves a.s.now a.at l.i l.invariant c.in-Go.j (sym c.misc_step-b.ensures ∙ c.in-Go.is)
-
-pub returns-in-Stop : goal.returns-in-Stop
-returns-in-Stop c =
-    let a = c.args in
-    let l = c.loop-j in
-    going-stops a.s.now a.at l.i l.invariant c.in-Stop.j (sym c.misc_step-b.ensures ∙ c.in-Stop.is)
-
-pub returns-in-Stuck : goal.returns-in-Stuck
-returns-in-Stuck c =
-    let a = c.args in
-    let l = c.loop-j in
-    going-stuck a.s.now a.at l.i l.invariant (sym c.misc_step-b.ensures ∙ c.in-Stuck.is)
+pub returns : goal.returns
+unfolding misc_at
+returns c = search rules

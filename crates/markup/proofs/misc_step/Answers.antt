@@ -8,7 +8,7 @@ use lib.ListN.{length}
 use Rattle.octets.specs.Bytes.{byte_at, stands, is_space}
 use Rattle.octets.specs.Text.{bytes}
 use Rattle.pieces.specs.Pieces.{note_at}
-use Rattle.pieces.specs.declared.End.TheVariants.{At, No}
+use Rattle.std.specs.Prelude.{Some, None}
 use Rattle.pieces.proofs.Inside.{space-in}
 use Rattle.markup.specs.Document.{go_on, misc_step}
 use Rattle.markup.proofs.misc_step.Goals as goal
@@ -38,22 +38,22 @@ returns-then-not-stands_at c =
     let y : stands (60 ∷ 33 ∷ 45 ∷ 45 ∷ []) s i ≡ false = sym c.stands_at.ensures ∙ c.if-not-stands_at.true in
     rw (b, y)
 
-pub returns-in-At : goal.returns-in-At
+pub returns-in-Some : goal.returns-in-Some
 unfolding misc_step go_on bytes
-returns-in-At c =
+returns-in-Some c =
     let s = c.args.s.now in
     let i = c.args.i in
     let b : is_space (byte_at s i) ≡ false = cc in
     let y : stands (60 ∷ 33 ∷ 45 ∷ 45 ∷ []) s i ≡ true = sym c.stands_at.ensures ∙ c.if-not-stands_at.false in
-    let n : note_at s i ≡ At c.in-At.j = sym c.note-n.ensures ∙ c.in-At.is in
+    let n : note_at s i ≡ Some c.in-Some.j = sym c.note.ensures ∙ c.in-Some.is in
     rw (b, y, n)
 
-pub returns-in-No : goal.returns-in-No
+pub returns-in-None : goal.returns-in-None
 unfolding misc_step go_on bytes
-returns-in-No c =
+returns-in-None c =
     let s = c.args.s.now in
     let i = c.args.i in
     let b : is_space (byte_at s i) ≡ false = cc in
     let y : stands (60 ∷ 33 ∷ 45 ∷ 45 ∷ []) s i ≡ true = sym c.stands_at.ensures ∙ c.if-not-stands_at.false in
-    let n : note_at s i ≡ No = sym c.note-n.ensures ∙ c.in-No.is in
+    let n : note_at s i ≡ None = sym c.note.ensures ∙ c.in-None.is in
     rw (b, y, n)

@@ -1,20 +1,12 @@
--- By the tests, one after the other.
-use mathlib.Core.Bool.{and-true}
+use Rattle.std.proofs.Common.{arith}
+use Rattle.std.proofs.lemmas.Grind.{common_steps}
 use Rattle.octets.specs.Bytes.{every}
 use Rattle.message.proofs.are_sound.Goals as goal
 
-pub returns-then-events : goal.returns-then-events
+pub returns-then-not-i-3 : goal.returns-then-not-i-3
 unfolding every
-returns-then-events c = rw c.if-events.true
+returns-then-not-i-3 c = grind (arith, common_steps)
 
-pub returns-then-parameters : goal.returns-then-parameters
+pub returns-else-not-i-3 : goal.returns-else-not-i-3
 unfolding every
-returns-then-parameters c = rw (c.if-events.false, c.if-parameters.true)
-
-pub returns-then-locations : goal.returns-then-locations
-unfolding every
-returns-then-locations c = rw (c.if-events.false, c.if-parameters.false, c.if-locations.true)
-
-pub returns : goal.returns
-unfolding every
-returns c = rw (c.if-events.false, c.if-parameters.false, c.if-locations.false, and-true)
+returns-else-not-i-3 c = grind (arith, common_steps)

@@ -1,3 +1,4 @@
+use mathlib.Core.Path.{◌≡◌, ◌∙◌}
 use native.Mathlib.Omega.{arith}
 use lib.ListN.{length}
 use borrow.Author.Tests.{eq-eqb, ne_eqb, lt-ltb, le-ltb}
@@ -19,4 +20,8 @@ loop-i-preserved c = let a = c.args in let l = c.loop-i in (search rules, search
 
 pub returns : goal.returns
 unfolding colon_at before_colon
-returns c = let a = c.args in let l = c.loop-i in stops (before_colon a.s.now a.to) (length a.s.now) a.from l.i (rw (le-ltb _ _ c.loop-i-test.false)) l.invariant.2
+returns c =
+    let a = c.args in
+    let l = c.loop-i in
+    let e : a.to ≡ l.i = omega arith in
+    e ∙ stops (before_colon a.s.now a.to) (length a.s.now) a.from l.i (rw (le-ltb _ _ c.loop-i-test.false)) l.invariant.2

@@ -1,15 +1,25 @@
--- The bits of the faults are those of the definition.
-use mathlib.Core.Bool.{Bool, not}
+-- The faults are those of the definition.
+use mathlib.Core.Bool.{Bool, not, ◌||◌}
 use mathlib.Core.List.{List, [], ◌∷◌}
-use lib.Dec.{eqb}
-use Rattle.message.specs.WorkingJudged.{faults_with}
-use mathlib.Core.Path.{◌≡◌, ap, ◌∙◌}
+use mathlib.Core.Path.{◌≡◌, sym, ap, ◌∙◌}
 use Rattle.faults.specs.WorkingField.{lowest}
+use Rattle.fields.specs.WorkingFields.{status_place, scope_place}
+use Rattle.message.specs.WorkingJudged.{info_ok, faults_with}
+use Rattle.message.proofs.Leaves.{no-time, no-status, no_scope}
 use Rattle.message.proofs.field_with.Goals as goal
+use Rattle.message.proofs.field_with.Goals.{then-a, else-a}
 
 pub returns : goal.returns
 returns c =
     let a = c.args in
-    let e : ◌≡◌ {A = List Bool} (not c.is_identified-no_identifier.result ∷ not c.is_identified-no_sender.result ∷ not c.is_time-no_sent.result ∷ eqb a.status 0 ∷ c.is_unknown.result ∷ eqb a.scope 0 ∷ c.either-other.result ∷ []) (faults_with a.s.now a.a a.sent a.status a.msg_type a.scope) =
-    rw (c.is_unknown.ensures, c.either-other.ensures, c.is_info_sound.ensures, c.is_time-no_sent.ensures, c.is_identified-no_sender.ensures, c.is_identified-no_identifier.ensures) in
+    let o : c.if-a.field ≡ a.a.fault || not (info_ok a.a.info) = elim c.if-a.branch [
+      | then-a w ↦ w.field-is ∙ w.if-a.true ∙ sym (ap (λ (b : Bool). b || not (info_ok a.a.info)) w.if-a.true)
+      | else-a w ↦ w.field-is ∙ ap not w.is_info_sound.ensures ∙ sym (ap (λ (b : Bool). b || not (info_ok a.a.info)) w.if-a.false)
+    ]
+    in
+    let t = no-time _ _ c.is_none.ensures in
+    let u = no-status _ _ c.is_none-2.ensures in
+    let v = no_scope _ _ c.is_none-3.ensures in
+    let e : ◌≡◌ {A = List Bool} (not c.is_identified.result ∷ not c.is_identified-2.result ∷ c.is_none.result ∷ c.is_none-2.result ∷ c.is_unknown.result ∷ c.is_none-3.result ∷ c.if-a.field ∷ []) (faults_with a.s.now a.a a.sent (status_place a.status) a.msg_type (scope_place a.scope)) =
+    rw (c.is_identified.ensures, c.is_identified-2.ensures, t, u, c.is_unknown.ensures, v, o) in
     c.field.ensures ∙ ap lowest e

@@ -7,7 +7,7 @@ use mathlib.Core.Bool.{true, false}
 use mathlib.Core.List.{◌++◌}
 use Rattle.octets.specs.Bytes.{part, same}
 use Rattle.octets.specs.Text.{bytes}
-use Rattle.pieces.specs.declared.End.TheVariants.{At, No}
+use Rattle.std.specs.Prelude.{Some, None}
 use Rattle.tags.specs.Attributes.{attr_named}
 use Rattle.tags.proofs.Goes.{named-goes}
 use Rattle.reads.specs.Names.{name_of}
@@ -32,21 +32,21 @@ returns-then-not-equal c =
 pub value_is-requires : goal.value_is-requires
 value_is-requires c =
     let a = c.args in
-    let f : attr_named a.s.now (a.lead.now ++ a.rest.now) a.to (length a.s.now) ≡ At c.in-At.q = sym c.find-v.ensures ∙ c.in-At.is in
+    let f : attr_named a.s.now (a.lead.now ++ a.rest.now) a.to (length a.s.now) ≡ Some c.in-Some.q = sym c.find.ensures ∙ c.in-Some.is in
     (rw f at (named-goes a.s.now (a.lead.now ++ a.rest.now) a.to (length a.s.now) (search rules))).1
 
-pub returns-in-At : goal.returns-in-At
+pub returns-in-Some : goal.returns-in-Some
 unfolding root_with is_namespace bytes
-returns-in-At c =
+returns-in-Some c =
     let a = c.args in
     let e : same (name_of a.s.now a.p.now a.from a.to) (bytes "alert") ≡ true = ap (λ (x : ℕ). same (part a.s.now x (a.to - x)) (bytes "alert")) (sym c.local-at.ensures) ∙ sym c.equal.ensures ∙ c.if-not-equal.false in
-    let f : attr_named a.s.now (a.lead.now ++ a.rest.now) a.to (length a.s.now) ≡ At c.in-At.q = sym c.find-v.ensures ∙ c.in-At.is in
+    let f : attr_named a.s.now (a.lead.now ++ a.rest.now) a.to (length a.s.now) ≡ Some c.in-Some.q = sym c.find.ensures ∙ c.in-Some.is in
     rw (e, f) c.value_is.ensures
 
-pub returns-in-No : goal.returns-in-No
+pub returns-in-None : goal.returns-in-None
 unfolding root_with is_namespace bytes
-returns-in-No c =
+returns-in-None c =
     let a = c.args in
     let e : same (name_of a.s.now a.p.now a.from a.to) (bytes "alert") ≡ true = ap (λ (x : ℕ). same (part a.s.now x (a.to - x)) (bytes "alert")) (sym c.local-at.ensures) ∙ sym c.equal.ensures ∙ c.if-not-equal.false in
-    let f : attr_named a.s.now (a.lead.now ++ a.rest.now) a.to (length a.s.now) ≡ No = sym c.find-v.ensures ∙ c.in-No.is in
+    let f : attr_named a.s.now (a.lead.now ++ a.rest.now) a.to (length a.s.now) ≡ None = sym c.find.ensures ∙ c.in-None.is in
     rw (e, f)

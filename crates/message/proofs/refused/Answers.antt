@@ -2,4 +2,4 @@
 use Rattle.message.proofs.refused.Goals as goal
 
 pub returns : goal.returns
-returns c = rw c.new_state-st.ensures
+returns c = rw c.new_state.ensures

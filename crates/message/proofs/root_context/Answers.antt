@@ -6,6 +6,6 @@ pub returns-then-ok : goal.returns-then-ok
 unfolding root_context
 returns-then-ok c = rw c.if-ok.true
 
-pub returns : goal.returns
+pub returns-else-ok : goal.returns-else-ok
 unfolding root_context
-returns c = rw c.if-ok.false
+returns-else-ok c = rw c.if-ok.false

@@ -1,12 +1,16 @@
--- A leaf that is not the only one is none; else its value decides.
-use mathlib.Core.Path.{sym, ◌∙◌}
+use mathlib.Core.Path.{sym, ap, ◌∙◌}
+use Rattle.values.specs.Value.{value_at}
+use Rattle.fields.specs.WorkingFields.{index_in, scopes, scope_place}
 use Rattle.message.specs.WorkingJudged.{place_among}
+use Rattle.message.proofs.Leaves.{read_only}
 use Rattle.message.proofs.scope_of.Goals as goal
 
-pub returns-then-not-is_only : goal.returns-then-not-is_only
+pub returns-in_err-place_of : goal.returns-in_err-place_of
 unfolding place_among
-returns-then-not-is_only c = rw (sym c.is_only.ensures ∙ c.if-not-is_only.true)
+returns-in_err-place_of c =
+    let a = c.args in
+    ap scope_place c.from_residual.ensures ∙ read_only (λ i. index_in scopes (value_at a.s.now i)) 0 a.l (sym c.in_err-place_of.was ∙ c.place_of.ensures)
 
 pub returns : goal.returns
 unfolding place_among
-returns c = rw (sym c.is_only.ensures ∙ c.if-not-is_only.false) c.scope_at.ensures
+returns c = let a = c.args in c.scope_at.ensures ∙ read_only (λ i. index_in scopes (value_at a.s.now i)) 0 a.l (sym c.in_ok-place_of.was ∙ c.place_of.ensures)

@@ -1,6 +1,7 @@
-use Rattle.octets.specs.Bytes.{is_digit}
+use borrow.Author.Rules.{rules}
+use Rattle.octets.specs.Bytes.{every, between, is_capital, is_digit, is_letter, is_visible}
 use Rattle.octets.proofs.is_digit.Goals as goal
 
 pub returns : goal.returns
-unfolding is_digit
-returns c = c.is_between.ensures
+unfolding every between is_capital is_digit is_letter is_visible
+returns c = search rules

@@ -1,11 +1,14 @@
--- Past the end only the empty run stands; a run that goes past the end does not; else the part there decides.
-use mathlib.Core.Path.{sym}
-use native.Mathlib.Omega.{arith}
-use Rattle.octets.proofs.Sames.{stands-past, past_end}
+use mathlib.Core.Path.{refl, ap, ◌∙◌}
+use mathlib.Core.List.{List}
+use Prim.Native.Nat.{ℕ}
+use lib.ListN.{length, take}
+use Rattle.octets.specs.Bytes.{same}
+use Rattle.octets.proofs.Sames.{same-pointwise, same_flip, rest_or_none}
 use Rattle.octets.proofs.stands_at.Goals as goal
 
-pub returns-then-s-at : goal.returns-then-s-at
-returns-then-s-at c = let a = c.args in past_end a.t.now a.s.now a.at c.if-s-at.true
-
-pub returns-then-s-at-2 : goal.returns-then-s-at-2
-returns-then-s-at-2 c = let a = c.args in sym (stands-past a.t.now a.s.now a.at (omega arith) (omega arith))
+pub returns : goal.returns
+returns c =
+    let a = c.args in
+    let t = a.t.now in
+    let r = ap (λ b. b.now) c.unwrap_or.ensures ∙ rest_or_none a.s.now a.at c.get.result _ refl c.get.ensures.lookup.0 in
+    c.starts_with.ensures.value ∙ same-pointwise t _ ∙ same_flip t _ ∙ ap (λ (x : List ℕ). same (take (length t) x) t) r

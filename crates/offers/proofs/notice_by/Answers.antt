@@ -1,16 +1,10 @@
 -- Each field is laid into zeros, and the maker puts them in their places.
 use native.Mathlib.Omega.{arith}
 use lib.ListN.{length-take}
-use Rattle.offers.proofs.Taken.{Ready, ready}
+use Rattle.offers.proofs.Taken.{ready}
 use Rattle.offers.proofs.Putting.{notice-laid}
 use Rattle.offers.specs.WorkingRecords.{own_in, zero_filled_header}
 use Rattle.offers.proofs.notice_by.Goals as goal
-
-told : (c : goal.After-head-1) → Ready c.args.s.now c.args.j
-told c = ready _ _ c.requires.0 c.requires.1
-
-told-at-After-notice : (c : goal.After-notice) → Ready c.args.s.now c.args.j
-told-at-After-notice c = ready _ _ c.requires.0 c.requires.1
 
 pub copy-requires : goal.copy-requires
 copy-requires c = simp length-take (omega arith)
@@ -20,11 +14,11 @@ copy-requires-2 c = simp length-take (omega arith)
 
 pub put_body-requires : goal.put_body-requires
 put_body-requires c =
-    let n = (told c).places c.requires.2 in
+    let n = (ready _ _ c.requires.0 c.requires.1).places c.requires.2 in
     record { count_bound = n; count_in_bounds = omega arith }
 
 pub returns : goal.returns
 unfolding own_in zero_filled_header
 returns c =
-    let r = told-at-After-notice c in
+    let r = ready _ _ c.requires.0 c.requires.1 in
     notice-laid _ _ _ _ _ _ _ _ r.sender r.identifier (r.header c.requires.2) c.copy.ensures.out_after c.copy-2.ensures.out_after c.put_body.ensures c.notice.ensures

@@ -11,7 +11,7 @@ pub returns-then-j : goal.returns-then-j
 returns-then-j c = let both = put-none _ _ _ c.if-j.true in record { value = both.0; batch_after = both.1 }
 
 pub put_bytes-requires : goal.put_bytes-requires
-put_bytes-requires c = let r = ready _ _ c.requires.0 c.requires.1 in omega (arith, ap length c.notice_by-r.ensures ∙ record-long _ (r.notice c.if-j.false), c.requires.2)
+put_bytes-requires c = let r = ready _ _ c.requires.0 c.requires.1 in omega (arith, ap length c.notice_by.ensures ∙ record-long _ (r.notice c.if-j.false), c.requires.2)
 
 pub returns : goal.returns
-returns c = let both = put_one_lem _ _ _ _ _ c.if-j.false c.notice_by-r.ensures c.put_bytes.ensures in record { value = both.0; batch_after = both.1 }
+returns c = let both = put_one_lem _ _ _ _ _ c.if-j.false c.notice_by.ensures c.put_bytes.ensures in record { value = both.0; batch_after = both.1 }

@@ -4,12 +4,16 @@ use native.Mathlib.Omega.{arith}
 use Prim.Native.Nat.{◌*◌}
 use lib.Seq.{sets}
 use Rattle.fields.specs.WorkingFields.{group_ok}
-use Rattle.offers.proofs.Putting.{word_fits, word_back, withdrawal-is, withdrawal-long}
+use Rattle.offers.proofs.Putting.{word_fits, word_whole, word_back, withdrawal-is, withdrawal-long}
 use Rattle.offers.proofs.put_withdrawal.Goals as goal
+
+pub slice_bounds-group-end : goal.slice_bounds-group-end
+slice_bounds-group-end c =
+    word_fits _ _ _ _ c.next_word-w.ensures.value c.next_word-w.ensures.out_after c.requires.at_value
 
 pub slice_bounds-withdrawal_by-end : goal.slice_bounds-withdrawal_by-end
 slice_bounds-withdrawal_by-end c =
-    word_fits _ _ _ _ c.next_word-w.ensures.value c.next_word-w.ensures.out_after c.requires.at_value
+    word_whole _ _ _ _ c.next_word-w.ensures.value c.next_word-w.ensures.out_after c.requires.at_value
 
 pub withdrawal_by-r-requires : goal.withdrawal_by-r-requires
 withdrawal_by-r-requires c =

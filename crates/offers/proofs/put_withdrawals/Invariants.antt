@@ -5,8 +5,8 @@ use Rattle.values.specs.WorkingSteps.{rest_at}
 use Rattle.offers.proofs.Putting.{Putting}
 use Rattle.offers.proofs.put_withdrawals.Given as goal
 
-abbrev pub invariant-loop-w : goal.invariant-loop-w
-invariant-loop-w l = Putting l.s l.at l.initial.batch l.n l.batch l.i l.k
+abbrev pub invariant-loop-j : goal.invariant-loop-j
+invariant-loop-j l = Putting l.s l.at l.initial.batch l.n l.batch l.i l.k
 
-abbrev pub decreases-loop-w : goal.decreases-loop-w
-decreases-loop-w l = length (words (rest_at l.s l.i))
+abbrev pub decreases-loop-j : goal.decreases-loop-j
+decreases-loop-j l = length (words (rest_at l.s l.i))

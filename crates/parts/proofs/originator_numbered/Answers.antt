@@ -1,24 +1,24 @@
--- Each number is tried in turn.
-use borrow.Author.Tests.{eq-eqb, ne_eqb}
+-- Each number, and one that is none of them.
+use Rattle.std.proofs.Common.{rules, tests}
 use Rattle.parts.specs.Originator.{numbered}
 use Rattle.parts.proofs.originator_numbered.Goals as goal
 
-pub returns-then-n-eq1 : goal.returns-then-n-eq1
+pub returns-in-1 : goal.returns-in-1
 unfolding numbered
-returns-then-n-eq1 c = simp (eq-eqb _ _ c.if-n-eq1.true)
+returns-in-1 c = search (rules, tests)
 
-pub returns-then-n-eq2 : goal.returns-then-n-eq2
+pub returns-in-2 : goal.returns-in-2
 unfolding numbered
-returns-then-n-eq2 c = simp (ne_eqb _ _ c.if-n-eq1.false, eq-eqb _ _ c.if-n-eq2.true)
+returns-in-2 c = search (rules, tests)
 
-pub returns-then-n-eq3 : goal.returns-then-n-eq3
+pub returns-in-3 : goal.returns-in-3
 unfolding numbered
-returns-then-n-eq3 c = simp (ne_eqb _ _ c.if-n-eq1.false, ne_eqb _ _ c.if-n-eq2.false, eq-eqb _ _ c.if-n-eq3.true)
+returns-in-3 c = search (rules, tests)
 
-pub returns-then-n-eq4 : goal.returns-then-n-eq4
+pub returns-in-4 : goal.returns-in-4
 unfolding numbered
-returns-then-n-eq4 c = simp (ne_eqb _ _ c.if-n-eq1.false, ne_eqb _ _ c.if-n-eq2.false, ne_eqb _ _ c.if-n-eq3.false, eq-eqb _ _ c.if-n-eq4.true)
+returns-in-4 c = search (rules, tests)
 
-pub returns : goal.returns
+pub returns-in_default : goal.returns-in_default
 unfolding numbered
-returns c = simp (ne_eqb _ _ c.if-n-eq1.false, ne_eqb _ _ c.if-n-eq2.false, ne_eqb _ _ c.if-n-eq3.false, ne_eqb _ _ c.if-n-eq4.false)
+returns-in_default c = search (rules, tests)

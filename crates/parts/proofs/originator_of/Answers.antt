@@ -1,28 +1,29 @@
--- Each name is tried in turn.
-use mathlib.Core.Path.{sym, ◌∙◌}
+-- The first of the four whose three bytes stand there.
+use Prim.Native.Nat.{ℕ}
+use mathlib.Core.Bool.{Bool, true, false, cond}
+use mathlib.Core.List.{List, [], ◌∷◌}
+use mathlib.Core.Path.{◌≡◌, refl, ◌∙◌}
+use Rattle.octets.specs.Bytes.{pick, part, stands}
 use Rattle.octets.specs.Text.{bytes}
 use Rattle.parts.specs.Originator.{originator_bytes, originator_of}
+use Rattle.parts.specs.declared.Originator.TheVariants.{Pep, Eas, Wxr, Civ}
+use Rattle.std.proofs.Common.{rules, tests}
+use Rattle.std.proofs.lemmas.Iterator.{YieldsList-from_slice}
+use Rattle.std.proofs.lemmas.Iterator.Search.{find_from_yields_List}
+use Rattle.std.specs.List.{find}
 use Rattle.parts.proofs.originator_of.Goals as goal
 
-pub returns-then-stands_at : goal.returns-then-stands_at
-unfolding originator_of originator_bytes bytes
-returns-then-stands_at c = simp (sym c.stands_at.ensures ∙ c.if-stands_at.true)
+cond-is : {A : Type 0} (b : Bool) (x y : A) → cond b x y ≡ pick b x y
+cond-is true x y = refl
+cond-is false x y = refl
 
-pub returns-then-stands_at-2 : goal.returns-then-stands_at-2
+found-is : (s : List ℕ) (at : ℕ) → find (λ o. stands (originator_bytes o) s at) (Pep ∷ Eas ∷ Wxr ∷ Civ ∷ []) ≡ originator_of (part s at 3)
 unfolding originator_of originator_bytes bytes
-returns-then-stands_at-2 c = simp (sym c.stands_at.ensures ∙ c.if-stands_at.false, sym c.stands_at-2.ensures ∙ c.if-stands_at-2.true)
-
-pub returns-then-stands_at-3 : goal.returns-then-stands_at-3
-unfolding originator_of originator_bytes bytes
-returns-then-stands_at-3 c =
-    simp (sym c.stands_at.ensures ∙ c.if-stands_at.false, sym c.stands_at-2.ensures ∙ c.if-stands_at-2.false, sym c.stands_at-3.ensures ∙ c.if-stands_at-3.true)
-
-pub returns-then-stands_at-4 : goal.returns-then-stands_at-4
-unfolding originator_of originator_bytes bytes
-returns-then-stands_at-4 c =
-    simp (sym c.stands_at.ensures ∙ c.if-stands_at.false, sym c.stands_at-2.ensures ∙ c.if-stands_at-2.false, sym c.stands_at-3.ensures ∙ c.if-stands_at-3.false, sym c.stands_at-4.ensures ∙ c.if-stands_at-4.true)
+found-is s at = simp cond-is
 
 pub returns : goal.returns
-unfolding originator_of originator_bytes bytes
 returns c =
-    simp (sym c.stands_at.ensures ∙ c.if-stands_at.false, sym c.stands_at-2.ensures ∙ c.if-stands_at-2.false, sym c.stands_at-3.ensures ∙ c.if-stands_at-3.false, sym c.stands_at-4.ensures ∙ c.if-stands_at-4.false)
+    let s = c.args.s.now in
+    let at = c.args.at in
+    let e = find_from_yields_List (λ o. stands (originator_bytes o) s at) _ _ c.find.result c.find.ensures.ran (YieldsList-from_slice (Pep ∷ Eas ∷ Wxr ∷ Civ ∷ []) c.iter.ensures.rest) (λ x b q k. search (rules, tests)) in
+    c.copied.ensures ∙ e ∙ found-is s at

@@ -1,30 +1,22 @@
+use mathlib.Core.List.{[], ◌∷◌}
 use mathlib.Core.Path.{sym, ◌∙◌}
-use borrow.Author.Rules.{rules}
 use borrow.Author.Tests.{eq-eqb, ne_eqb}
-use Rattle.octets.proofs.Everys.{every-on, every-broken, every-ended}
-use Rattle.octets.proofs.Tests.{every_of, one-fails}
+use Rattle.octets.proofs.Everys.{last-decides}
+use Rattle.octets.proofs.Tests.{one-fails}
 use Rattle.parts.specs.Parts.{is_station_byte, station_tests, station_ok}
+use Rattle.parts.proofs.Everys.{all-is}
+use Rattle.std.proofs.Common.{rules, tests}
+use Rattle.std.proofs.lemmas.Iterator.{YieldsList-from_slice}
+use Rattle.std.proofs.lemmas.Iterator.Search.{all_from_yields_List}
 use Rattle.parts.proofs.station_ok.Goals as goal
 
-pub returns-then-t-ne8 : goal.returns-then-t-ne8
+pub returns-then-t-eq8 : goal.returns-then-t-eq8
 unfolding station_ok
-returns-then-t-ne8 c = sym (one-fails 0 (station_tests c.args.t.now) (ne_eqb _ _ c.if-t-ne8.true))
-
-pub returns-then-not-is_station : goal.returns-then-not-is_station
-unfolding station_ok
-returns-then-not-is_station c =
-    let l = c.loop-i in
+returns-then-t-eq8 c =
     let t = c.args.t.now in
-    sym (one-fails 1 (station_tests t) (every-broken is_station_byte t l.i _ l.invariant.1 c.loop-i-test.true (sym c.is_station.ensures ∙ c.if-not-is_station.true)))
+    all_from_yields_List is_station_byte _ _ c.all.result c.all.ensures.ran (YieldsList-from_slice t cc) (λ x b q k. search (rules, tests))
+    ∙ all-is is_station_byte t ∙ sym (last-decides (_ ∷ []) _ (eq-eqb _ _ c.if-t-eq8.true, tt))
 
-pub loop-i-preserved : goal.loop-i-preserved
-loop-i-preserved c =
-    let l = c.loop-i in
-    (search rules, every-on is_station_byte c.args.t.now l.i _ l.invariant.1 c.loop-i-test.true (sym c.is_station.ensures ∙ c.if-not-is_station.false))
-
-pub returns : goal.returns
+pub returns-else-t-eq8 : goal.returns-else-t-eq8
 unfolding station_ok
-returns c =
-    let l = c.loop-i in
-    let t = c.args.t.now in
-    sym (every_of (station_tests t) (eq-eqb _ _ c.if-t-ne8.false, (every-ended is_station_byte t l.i _ l.invariant.1 c.loop-i-test.false, tt)))
+returns-else-t-eq8 c = let no = ne_eqb _ _ c.if-t-eq8.false in no ∙ sym (one-fails 0 (station_tests c.args.t.now) no)

@@ -1,11 +1,7 @@
--- A block more of a run, as long as one has room in the message.
-use Prim.Native.Nat.{◌-◌}
-use lib.ListN.{length}
+-- The blocks so far are of a run.
+use Prim.Native.Nat.{◌*◌}
 use Rattle.pieces.specs.WorkingClasses.{Runs}
 use Rattle.pieces.proofs.blocks.Given as goal
 
-abbrev pub invariant-loop-at : goal.invariant-loop-at
-invariant-loop-at l = Runs l.s l.at l.n
-
-abbrev pub decreases-loop-at : goal.decreases-loop-at
-decreases-loop-at l = length l.s - l.n
+abbrev pub invariant-loop-k : goal.invariant-loop-k
+invariant-loop-k l = Runs l.s l.at (16 * l.k)

@@ -3,51 +3,52 @@ use native.Mathlib.Omega.{arith}
 use mathlib.Core.Path.{sym, ap, ◌∙◌, ◌≡◌}
 use Prim.Native.Nat.{ℕ, ◌+◌, ◌<◌}
 use lib.Dec.{lit<}
+use lib.ListN.{length}
+use mathlib.Core.Bool.{false}
 use Rattle.octets.specs.Bytes.{byte_at}
 use Rattle.pieces.specs.WorkingClasses.{is_run}
-use Rattle.pieces.specs.declared.Ref.TheVariants.{Scalar}
+use Rattle.std.specs.Prelude.{Some}
 use Rattle.pieces.proofs.Words.{inside_is}
 use Rattle.pieces.proofs.Inside.{run_in, char-run, char-bracket, char-ref, char-low}
 use Rattle.pieces.proofs.character.Goals as goal
-
--- what is known of the byte that stands there
-known : (c : goal.Then-is_run) → let a = c.args in is_run (byte_at a.s.now a.at) ≡ c.is_run.result
-known c = ap is_run (sym c.byte-b.ensures) ∙ sym c.is_run.ensures
-
--- what is known of the byte that stands there
-known-at-Then-b-lt128 : (c : goal.Then-b-lt128) → let a = c.args in is_run (byte_at a.s.now a.at) ≡ c.is_run.result
-known-at-Then-b-lt128 c = ap is_run (sym c.byte-b.ensures) ∙ sym c.is_run.ensures
+use Rattle.pieces.proofs.character.Goals.{then-is_run-via-then-is_run, then-is_run-via-else-is_run+then-b-eq93}
 
 pub overflow_add-result : goal.overflow_add-result
-overflow_add-result c = let a = c.args in let l = run_in a.s.now a.at (known c ∙ c.if-is_run.true) in omega arith
+overflow_add-result c =
+    let s = c.args.s.now in
+    let i = c.args.at in
+    let l : i < length s = elim c.then-is_run.branch [
+      | then-is_run-via-then-is_run w ↦ run_in s i (cc)
+      | then-is_run-via-else-is_run+then-b-eq93 w ↦ inside_is s i 93 (lit< tt) (sym c.byte-b.ensures ∙ w.if-b-eq93.true)
+    ] in
+    omega arith
 
 pub returns-then-is_run : goal.returns-then-is_run
 returns-then-is_run c =
-    let a = c.args in
-    ap (λ (b : ℕ). Scalar b (a.at + 1)) c.byte-b.ensures ∙ char-run a.s.now a.at (known c ∙ c.if-is_run.true)
+    let s = c.args.s.now in
+    let i = c.args.at in
+    let r : is_run (byte_at s i) ≡ c.is_run.result = cc in
+    elim c.then-is_run.branch [
+      | then-is_run-via-then-is_run w ↦ ap (λ (b : ℕ). Some (b, i + 1)) (c.from.ensures ∙ c.byte-b.ensures) ∙ char-run s i (r ∙ w.if-is_run.true)
+      | then-is_run-via-else-is_run+then-b-eq93 w ↦
+          let e = w.if-b-eq93.true in
+          ap (λ (b : ℕ). Some (b, i + 1)) (c.from.ensures ∙ e) ∙ char-bracket s i (sym c.byte-b.ensures ∙ e)
+    ]
 
 pub returns-then-b-eq38 : goal.returns-then-b-eq38
 returns-then-b-eq38 c =
     let a = c.args in
     c.reference.ensures ∙ char-ref a.s.now a.at (sym c.byte-b.ensures ∙ c.if-b-eq38.true)
 
-pub overflow_add-result-then-b-eq93 : goal.overflow_add-result-then-b-eq93
-overflow_add-result-then-b-eq93 c =
-    let a = c.args in
-    let l = inside_is a.s.now a.at 93 (lit< tt) (sym c.byte-b.ensures ∙ c.if-b-eq93.true) in
-    omega arith
-
-pub returns-then-b-eq93 : goal.returns-then-b-eq93
-returns-then-b-eq93 c = let a = c.args in char-bracket a.s.now a.at (sym c.byte-b.ensures ∙ c.if-b-eq93.true)
-
 pub returns-then-b-lt128 : goal.returns-then-b-lt128
 returns-then-b-lt128 c =
     let a = c.args in
     let l : byte_at a.s.now a.at < 128 = omega (arith, c.byte-b.ensures, c.if-b-lt128.true) in
-    char-low a.s.now a.at l (known-at-Then-b-lt128 c ∙ c.if-is_run.false) (λ e. c.if-b-eq93.false (c.byte-b.ensures ∙ e)) (λ e. c.if-b-eq38.false (c.byte-b.ensures ∙ e))
+    let k : is_run (byte_at a.s.now a.at) ≡ false = cc in
+    char-low a.s.now a.at l k (λ e. c.if-b-eq93.false (c.byte-b.ensures ∙ e)) (λ e. c.if-b-eq38.false (c.byte-b.ensures ∙ e))
 
 pub wide-requires : goal.wide-requires
 wide-requires c = omega (arith, c.byte-b.ensures, c.if-b-lt128.false)
 
-pub returns : goal.returns
-returns c = c.wide.ensures
+pub returns-else-b-lt128 : goal.returns-else-b-lt128
+returns-else-b-lt128 c = c.wide.ensures

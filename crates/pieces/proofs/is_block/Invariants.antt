@@ -1,11 +1,8 @@
 -- As long as the sum of the tests is 0, each byte so far is one of a run.
-use Prim.Native.Nat.{◌-◌, ◌*◌, ◌≤◌}
+use Prim.Native.Nat.{◌*◌, ◌≤◌}
 use mathlib.Core.Path.{◌≡◌}
 use Rattle.pieces.specs.WorkingClasses.{Runs}
 use Rattle.pieces.proofs.is_block.Given as goal
 
 abbrev pub invariant-loop-k : goal.invariant-loop-k
-invariant-loop-k l = (l.n ≤ 5 * l.k) × (l.k ≤ 16) × (l.n ≡ 0 → Runs l.s l.at l.k)
-
-abbrev pub decreases-loop-k : goal.decreases-loop-k
-decreases-loop-k l = 16 - l.k
+invariant-loop-k l = (l.n ≤ 5 * l.k) × (l.n ≡ 0 → Runs l.s l.at l.k)

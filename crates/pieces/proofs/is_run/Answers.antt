@@ -2,7 +2,7 @@
 use mathlib.Core.Path.{◌≡◌, ◌∙◌}
 use mathlib.Core.Bool.{or-false}
 use native.Mathlib.Omega.{arith}
-use borrow.Author.Tests.{ne_eqb}
+use borrow.Author.Tests.{ne_eqb, lt-ltb}
 use Rattle.octets.specs.Bytes.{every, one_of, between}
 use Rattle.characters.specs.Utf8.{is_legal, is_single}
 use Rattle.characters.proofs.Legals.{single-low, single-high}
@@ -21,17 +21,17 @@ pub returns-then-b-gt38 : goal.returns-then-b-gt38
 unfolding one_of
 returns-then-b-gt38 c = let b = c.args.b in rw (run-basic b (omega arith) (omega arith), ne_eqb b 93 (omega arith), ne_eqb b 38 (omega arith), or-false)
 
-pub returns-then-b-eq38 : goal.returns-then-b-eq38
+pub returns-else-b-ne38 : goal.returns-else-b-ne38
 unfolding is_run is_single is_legal one_of between every
-returns-then-b-eq38 c = let b = c.args.b in let e : b ≡ 38 = c.if-b-eq38.true in rw e
+returns-else-b-ne38 c = let b = c.args.b in let e : b ≡ 38 = c.if-b-ne38.false in rw e
 
 pub returns-then-b-gt31 : goal.returns-then-b-gt31
 unfolding one_of
 returns-then-b-gt31 c =
     let b = c.args.b in
-    rw (run-basic b (omega arith) (omega arith), ne_eqb b 93 (omega arith), ne_eqb b 60 (omega arith), ne_eqb b 38 (omega arith))
+    rw (run-basic b (omega arith) (omega arith), ne_eqb b 93 (omega arith), ne_eqb b 60 (omega arith), ne_eqb b 38 (omega arith)) (lt-ltb 31 b c.if-b-gt31.true)
 
-pub returns : goal.returns
-returns c =
+pub returns-else-b-gt31 : goal.returns-else-b-gt31
+returns-else-b-gt31 c =
     let b = c.args.b in
     c.is_space.ensures ∙ single-low b (omega arith) ∙ run-rest b (omega arith) (omega arith) (omega arith)

@@ -9,7 +9,7 @@ use Rattle.octets.specs.Bytes.{byte_at}
 use Rattle.characters.specs.Utf8.{through}
 use Rattle.pieces.proofs.Words.{inside_is}
 use Rattle.pieces.specs.Pieces.{in_text, ref_at, referred, piece_at}
-use Rattle.pieces.specs.declared.Ref.TheVariants.{Scalar, Wrong}
+use Rattle.std.specs.Prelude.{Some, None}
 use Rattle.pieces.specs.declared.Piece.TheVariants.{Text}
 use Rattle.pieces.proofs.next_piece.Goals as goal
 
@@ -18,37 +18,37 @@ next_tag-requires c =
     let s = c.args.s.now in
     let i = c.args.at in
     let b = byte_at s i in
-    let f : c.byte-b.result ≡ b = cc in
+    let f : c.byte.result ≡ b = cc in
     let h : i < length s = inside_is s i 60 (lit< tt) (omega arith) in
     omega arith
 
-pub returns-then-b-eq60 : goal.returns-then-b-eq60
+pub returns-in-60 : goal.returns-in-60
 unfolding piece_at
-returns-then-b-eq60 c =
+returns-in-60 c =
     let s = c.args.s.now in
     let i = c.args.at in
     let b = byte_at s i in
-    let f : c.byte-b.result ≡ b = cc in
+    let f : c.byte.result ≡ b = cc in
     rw (eq-eqb b 60 (omega arith)) c.next_tag.ensures
 
-pub returns-in-Scalar : goal.returns-in-Scalar
+pub returns-in-Some : goal.returns-in-Some
 unfolding piece_at referred
-returns-in-Scalar c =
+returns-in-Some c =
     let s = c.args.s.now in
     let i = c.args.at in
     let b = byte_at s i in
-    let f : c.byte-b.result ≡ b = cc in
-    let w : ref_at s i ≡ Scalar c.in-Scalar.field-0 c.in-Scalar.j = sym c.reference-r.ensures ∙ c.in-Scalar.is in
+    let f : c.byte.result ≡ b = cc in
+    let w : ref_at s i ≡ Some (c.in-Some.field-0-0, c.in-Some.j) = sym c.reference.ensures ∙ c.in-Some.is in
     rw (ne_eqb b 60 (omega arith), eq-eqb b 38 (omega arith), w)
 
-pub returns-in-Wrong : goal.returns-in-Wrong
+pub returns-in-None : goal.returns-in-None
 unfolding piece_at referred
-returns-in-Wrong c =
+returns-in-None c =
     let s = c.args.s.now in
     let i = c.args.at in
     let b = byte_at s i in
-    let f : c.byte-b.result ≡ b = cc in
-    let w : ref_at s i ≡ Wrong = sym c.reference-r.ensures ∙ c.in-Wrong.is in
+    let f : c.byte.result ≡ b = cc in
+    let w : ref_at s i ≡ None = sym c.reference.ensures ∙ c.in-None.is in
     rw (ne_eqb b 60 (omega arith), eq-eqb b 38 (omega arith), w)
 
 pub returns-then-e-at : goal.returns-then-e-at
@@ -57,7 +57,7 @@ returns-then-e-at c =
     let s = c.args.s.now in
     let i = c.args.at in
     let b = byte_at s i in
-    let f : c.byte-b.result ≡ b = cc in
+    let f : c.byte.result ≡ b = cc in
     let e = through (in_text s) s i in
     let g : c.run-e.result ≡ e = c.run-e.ensures in
     rw (ne_eqb b 60 (omega arith), ne_eqb b 38 (omega arith), eq-eqb e i (omega arith))
@@ -68,7 +68,7 @@ returns-else-e-at c =
     let s = c.args.s.now in
     let i = c.args.at in
     let b = byte_at s i in
-    let f : c.byte-b.result ≡ b = cc in
+    let f : c.byte.result ≡ b = cc in
     let e = through (in_text s) s i in
     let g : c.run-e.result ≡ e = c.run-e.ensures in
     rw (ne_eqb b 60 (omega arith), ne_eqb b 38 (omega arith), ne_eqb e i (omega arith)) (ap Text g)

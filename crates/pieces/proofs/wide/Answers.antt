@@ -16,7 +16,7 @@ returns-then-c-eq0 c = char-none c.args.s.now c.args.at (sym c.scalar-c.ensures 
 pub overflow_add-result : goal.overflow_add-result
 overflow_add-result c = let a = c.args in omega (arith, c.bytes_of.ensures ∙ ap width c.scalar-c.ensures, scalar-in a.s.now a.at (some c))
 
-pub returns : goal.returns
-returns c =
+pub returns-else-c-eq0 : goal.returns-else-c-eq0
+returns-else-c-eq0 c =
     let a = c.args in
     rw (c.bytes_of.ensures, c.scalar-c.ensures) (char-wide a.s.now a.at c.requires (some c))

@@ -1,62 +1,40 @@
 -- The row at the name's place decides.
-use Prim.Native.Nat.{ℕ}
 use mathlib.Core.Path.{◌≡◌, refl, sym, ap, ◌∙◌}
-use mathlib.Core.List.{List}
-use borrow.Author.Rules.{rules}
+use mathlib.Core.Logic.{◌⊎◌, inl, inr}
+use native.Mathlib.Omega.{arith}
+use Rattle.std.specs.Prelude.{Some}
 use Rattle.octets.specs.Text.{bytes}
 use Rattle.words.specs.WorkingWords.{words_of}
-use Rattle.words.proofs.Choices.{chosen, alike}
-use Rattle.reads.specs.Names.{ReadElement, among, in_alert, info_inside}
-use Rattle.reads.specs.declared.Context.TheVariants.{AlertLeaf, Skipped}
-use Rattle.reads.proofs.Rows.{insides, inside_at, no_row}
+use Rattle.words.proofs.Choices.{alike, place-within}
+use Rattle.reads.specs.Names.{in_alert, info_inside}
+use Rattle.reads.specs.declared.Kept.{Kept}
+use Rattle.reads.specs.declared.Kept.TheVariants.{Nothing, First}
+use Rattle.reads.specs.declared.Context.TheVariants.{Info, AlertLeaf}
+use Rattle.reads.proofs.Rows.{read_names, inside_at, read-inside}
 use Rattle.reads.proofs.alert_context.Goals as goal
 
-abbrev rows : goal.Then-k-lt7 → List ReadElement
-rows c = in_alert c.args.kept
-
-told : (c : goal.Then-k-lt7) (k : ℕ) → c.which-k.result ≡ k → inside_at (rows c) k ≡ among (rows c) c.args.name.now
-unfolding among bytes words_of
-told c k h = chosen Skipped _ (insides (rows c)) _ (sym h ∙ c.which-k.ensures)
-
-abbrev rows-at-Then-k-gt7 : goal.Then-k-gt7 → List ReadElement
-rows-at-Then-k-gt7 c = in_alert c.args.kept
-
-told-at-Then-k-gt7 : (c : goal.Then-k-gt7) (k : ℕ) → c.which-k.result ≡ k → inside_at (rows-at-Then-k-gt7 c) k ≡ among (rows-at-Then-k-gt7 c) c.args.name.now
-unfolding among bytes words_of
-told-at-Then-k-gt7 c k h = chosen Skipped _ (insides (rows-at-Then-k-gt7 c)) _ (sym h ∙ c.which-k.ensures)
-
-abbrev rows-at-In-Nothing : goal.In-Nothing → List ReadElement
-rows-at-In-Nothing c = in_alert c.args.kept
-
-told-at-In-Nothing : (c : goal.In-Nothing) (k : ℕ) → c.which-k.result ≡ k → inside_at (rows-at-In-Nothing c) k ≡ among (rows-at-In-Nothing c) c.args.name.now
-unfolding among bytes words_of
-told-at-In-Nothing c k h = chosen Skipped _ (insides (rows-at-In-Nothing c)) _ (sym h ∙ c.which-k.ensures)
-
-abbrev rows-at-In-First : goal.In-First → List ReadElement
-rows-at-In-First c = in_alert c.args.kept
-
-told-at-In-First : (c : goal.In-First) (k : ℕ) → c.which-k.result ≡ k → inside_at (rows-at-In-First c) k ≡ among (rows-at-In-First c) c.args.name.now
-unfolding among bytes words_of
-told-at-In-First c k h = chosen Skipped _ (insides (rows-at-In-First c)) _ (sym h ∙ c.which-k.ensures)
-
-abbrev rows-at-In-Selected : goal.In-Selected → List ReadElement
-rows-at-In-Selected c = in_alert c.args.kept
-
-told-at-In-Selected : (c : goal.In-Selected) (k : ℕ) → c.which-k.result ≡ k → inside_at (rows-at-In-Selected c) k ≡ among (rows-at-In-Selected c) c.args.name.now
-unfolding among bytes words_of
-told-at-In-Selected c k h = chosen Skipped _ (insides (rows-at-In-Selected c)) _ (sym h ∙ c.which-k.ensures)
-
-pub returns-then-k-lt7 : goal.returns-then-k-lt7
-returns-then-k-lt7 c = alike AlertLeaf (inside_at (rows c)) 7 refl c.which-k.result c.if-k-lt7.true ∙ told c _ refl
-
-pub returns-then-k-gt7 : goal.returns-then-k-gt7
-returns-then-k-gt7 c = no_row (rows-at-Then-k-gt7 c) c.which-k.result (search rules) ∙ told-at-Then-k-gt7 c _ refl
+whole : (k : Kept) → k ≡ Nothing ⊎ k ≡ First → Info ≡ info_inside k
+whole k (inl e) = rw e
+whole k (inr e) = rw e
 
 pub returns-in-Nothing : goal.returns-in-Nothing
-returns-in-Nothing c = ap info_inside (sym c.in-Nothing.is) ∙ told-at-In-Nothing c 7 (search rules)
-
-pub returns-in-First : goal.returns-in-First
-returns-in-First c = ap info_inside (sym c.in-First.is) ∙ told-at-In-First c 7 (search rules)
+unfolding bytes words_of
+returns-in-Nothing c =
+    whole c.args.kept c.in-Nothing.is ∙ read-inside (in_alert c.args.kept) c.args.name.now (sym (c.in-Some-eq7.is ∙ ap Some c.in-Some-eq7.field-0-test) ∙ c.which.ensures)
 
 pub returns-in-Selected : goal.returns-in-Selected
-returns-in-Selected c = ap info_inside (sym c.in-Selected.is) ∙ told-at-In-Selected c 7 (search rules)
+unfolding bytes words_of
+returns-in-Selected c =
+    ap info_inside (sym c.in-Selected.is) ∙ read-inside (in_alert c.args.kept) c.args.name.now (sym (c.in-Some-eq7.is ∙ ap Some c.in-Some-eq7.field-0-test) ∙ c.which.ensures)
+
+pub returns-in-Some : goal.returns-in-Some
+unfolding bytes words_of
+returns-in-Some c =
+    let e = sym c.in-Some.is ∙ c.which.ensures in
+    let rows = in_alert c.args.kept in
+    let within = place-within (read_names rows) c.args.name.now e in
+    alike AlertLeaf (inside_at rows) 7 refl c.in-Some.k (omega (arith, within, c.in-Some.k-test.1)) ∙ read-inside rows c.args.name.now e
+
+pub returns-in-None : goal.returns-in-None
+unfolding bytes words_of
+returns-in-None c = read-inside (in_alert c.args.kept) c.args.name.now (sym c.in-None.is ∙ c.which.ensures)

@@ -1,27 +1,44 @@
 -- The value's place among the three names, counted from 1.
-use Prim.Native.Nat.{ℕ, ◌+◌}
+use Prim.Native.Nat.{ℕ, ◌+◌, ◌<◌}
 use mathlib.Core.Path.{◌≡◌, refl, sym, ◌∙◌}
-use mathlib.Core.List.{List, [], ◌∷◌}
-use lib.ListN.{get_or, get_or-eq_default}
+use mathlib.Core.List.{List, [], ◌∷◌, map}
+use native.Mathlib.Omega.{arith}
+use lib.ListN.{get_or}
+use Rattle.std.specs.Prelude.{Option, Some}
 use Rattle.octets.specs.Text.{bytes}
-use Rattle.words.specs.WorkingWords.{words_of}
-use Rattle.words.proofs.Choices.{chosen, alike}
+use Rattle.values.specs.Value.{value_at}
+use Rattle.words.specs.WorkingWords.{words_of, which_of}
+use Rattle.words.proofs.Choices.{answer, chosen, alike, place-within}
 use Rattle.reads.specs.WorkingSteps.{audio_of}
 use Rattle.reads.proofs.audio_of.Goals as goal
+
+abbrev names : List (List ℕ)
+names = map bytes ("audio/x-ipaws-audio-mp3" ∷ "audio/x-ipaws-audio-wav" ∷ "audio/x-ipaws-streaming-audio-mp3" ∷ [])
 
 abbrev numbers : List ℕ
 numbers = 1 ∷ 2 ∷ 3 ∷ []
 
-told : (c : goal.Then-k-lt3) → let a = c.args in get_or numbers c.which_value-k.result 0 ≡ audio_of a.s.now a.at
-unfolding audio_of bytes words_of
-told c = chosen 0 _ numbers _ c.which_value-k.ensures
+told : (s : List ℕ) (at : ℕ) {o : Option ℕ} → o ≡ which_of names (value_at s at) → answer 0 numbers o ≡ audio_of s at
+unfolding audio_of
+told s at h = chosen 0 names numbers (value_at s at) h
 
-told-at-Else-k-lt3 : (c : goal.Else-k-lt3) → let a = c.args in get_or numbers c.which_value-k.result 0 ≡ audio_of a.s.now a.at
-unfolding audio_of bytes words_of
-told-at-Else-k-lt3 c = chosen 0 _ numbers _ c.which_value-k.ensures
+within : (s : List ℕ) (at k : ℕ) → Some k ≡ which_of names (value_at s at) → k < 3
+within s at k h = place-within names (value_at s at) h
 
-pub returns-then-k-lt3 : goal.returns-then-k-lt3
-returns-then-k-lt3 c = alike (λ (k : ℕ). k + 1) (λ (k : ℕ). get_or numbers k 0) 3 refl c.which_value-k.result c.if-k-lt3.true ∙ told c
+pub overflow_cast-result : goal.overflow_cast-result
+unfolding bytes words_of
+overflow_cast-result c = let l = within c.args.s.now c.args.at c.in-Some.k (sym c.in-Some.is ∙ c.which_value.ensures) in omega (arith, l)
 
-pub returns : goal.returns
-returns c = sym (get_or-eq_default numbers 0 c.if-k-lt3.false) ∙ told-at-Else-k-lt3 c
+pub overflow_add-result : goal.overflow_add-result
+unfolding bytes words_of
+overflow_add-result c = let l = within c.args.s.now c.args.at c.in-Some.k (sym c.in-Some.is ∙ c.which_value.ensures) in omega (arith, l)
+
+pub returns-in-Some : goal.returns-in-Some
+unfolding bytes words_of
+returns-in-Some c =
+    let e = sym c.in-Some.is ∙ c.which_value.ensures in
+    alike (λ (k : ℕ). k + 1) (λ (k : ℕ). get_or numbers k 0) 3 refl c.in-Some.k (within c.args.s.now c.args.at c.in-Some.k e) ∙ told c.args.s.now c.args.at e
+
+pub returns-in-None : goal.returns-in-None
+unfolding bytes words_of
+returns-in-None c = told c.args.s.now c.args.at (sym c.in-None.is ∙ c.which_value.ensures)

@@ -1,17 +1,17 @@
--- A name shorter than the prefix does not carry it; else what stands at its beginning decides.
+-- What carries the prefix begins with it.
 use mathlib.Core.Path.{sym, ◌∙◌}
-use borrow.Author.Tests.{le-leb, lt-leb}
 use Rattle.reads.specs.Names.{local_at}
+use Rattle.reads.proofs.Locals.{carries}
 use Rattle.reads.proofs.local.Goals as goal
 
-pub returns-then-to-from : goal.returns-then-to-from
+pub returns-then-starts_with : goal.returns-then-starts_with
 unfolding local_at
-returns-then-to-from c = rw (lt-leb _ _ c.if-to-from.true)
+returns-then-starts_with c =
+    let a = c.args in
+    rw (sym (carries a.s.now a.p.now a.from a.to c.requires.0 c.requires.1 c.starts_with.ensures.value) ∙ c.if-starts_with.true)
 
-pub returns-then-stands_at : goal.returns-then-stands_at
+pub returns-else-starts_with : goal.returns-else-starts_with
 unfolding local_at
-returns-then-stands_at c = rw (le-leb _ _ c.if-to-from.false, sym c.stands_at.ensures ∙ c.if-stands_at.true)
-
-pub returns : goal.returns
-unfolding local_at
-returns c = rw (le-leb _ _ c.if-to-from.false, sym c.stands_at.ensures ∙ c.if-stands_at.false)
+returns-else-starts_with c =
+    let a = c.args in
+    rw (sym (carries a.s.now a.p.now a.from a.to c.requires.0 c.requires.1 c.starts_with.ensures.value) ∙ c.if-starts_with.false)

@@ -1,25 +1,19 @@
 -- The row at the name's place decides.
-use Prim.Native.Nat.{ℕ}
-use mathlib.Core.Path.{◌≡◌, refl, sym, ◌∙◌}
-use borrow.Author.Rules.{rules}
+use mathlib.Core.Path.{refl, sym, ◌∙◌}
 use Rattle.octets.specs.Text.{bytes}
 use Rattle.words.specs.WorkingWords.{words_of}
-use Rattle.words.proofs.Choices.{chosen, alike}
-use Rattle.reads.specs.Names.{among, in_pair}
-use Rattle.reads.specs.declared.Context.TheVariants.{PairLeaf, Skipped}
-use Rattle.reads.proofs.Rows.{insides, inside_at, no_row}
+use Rattle.words.proofs.Choices.{alike, place-within}
+use Rattle.reads.specs.Names.{in_pair}
+use Rattle.reads.specs.declared.Context.TheVariants.{PairLeaf}
+use Rattle.reads.proofs.Rows.{read_names, inside_at, read-inside}
 use Rattle.reads.proofs.pair_context.Goals as goal
 
-told : (c : goal.Then-k-lt2) (k : ℕ) → c.which-k.result ≡ k → inside_at in_pair k ≡ among in_pair c.args.name.now
-unfolding among bytes words_of
-told c k h = chosen Skipped _ (insides in_pair) _ (sym h ∙ c.which-k.ensures)
+pub returns-in-Some : goal.returns-in-Some
+unfolding bytes words_of
+returns-in-Some c =
+    let e = sym c.in-Some.is ∙ c.which.ensures in
+    alike PairLeaf (inside_at in_pair) 2 refl c.in-Some.k (place-within (read_names in_pair) c.args.name.now e) ∙ read-inside in_pair c.args.name.now e
 
-told-at-Else-k-lt2 : (c : goal.Else-k-lt2) (k : ℕ) → c.which-k.result ≡ k → inside_at in_pair k ≡ among in_pair c.args.name.now
-unfolding among bytes words_of
-told-at-Else-k-lt2 c k h = chosen Skipped _ (insides in_pair) _ (sym h ∙ c.which-k.ensures)
-
-pub returns-then-k-lt2 : goal.returns-then-k-lt2
-returns-then-k-lt2 c = alike PairLeaf (inside_at in_pair) 2 refl c.which-k.result c.if-k-lt2.true ∙ told c _ refl
-
-pub returns : goal.returns
-returns c = no_row in_pair c.which-k.result (search rules) ∙ told-at-Else-k-lt2 c _ refl
+pub returns-in-None : goal.returns-in-None
+unfolding bytes words_of
+returns-in-None c = read-inside in_pair c.args.name.now (sym c.in-None.is ∙ c.which.ensures)

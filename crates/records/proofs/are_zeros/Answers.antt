@@ -1,14 +1,11 @@
-use mathlib.Core.Path.{sym}
-use Rattle.octets.proofs.Everys.{every-on, every-broken, every-ended}
-use Rattle.parts.specs.Parts.{is_zero}
-use Rattle.records.proofs.ZeroFill.{zero_is, zero-not}
+-- Byte by byte, as the closure tests them.
+use Rattle.std.proofs.Common.{eqb, ◌∙◌, rules, tests}
+use Rattle.std.proofs.lemmas.Iterator.{YieldsList-from_slice}
+use Rattle.std.proofs.lemmas.Iterator.Search.{all_from_yields_List}
+use Rattle.records.proofs.ZeroFill.{zeros-all}
 use Rattle.records.proofs.are_zeros.Goals as goal
 
-pub returns-then-f-i-ne0 : goal.returns-then-f-i-ne0
-returns-then-f-i-ne0 c = sym (every-broken is_zero _ _ _ c.loop-i.invariant c.loop-i-test.true (zero-not _ c.if-f-i-ne0.true))
-
-pub loop-i-preserved : goal.loop-i-preserved
-loop-i-preserved c = every-on is_zero _ _ _ c.loop-i.invariant c.loop-i-test.true (zero_is _ c.if-f-i-ne0.false)
-
 pub returns : goal.returns
-returns c = sym (every-ended is_zero _ _ _ c.loop-i.invariant c.loop-i-test.false)
+returns c =
+    let f = c.args.f.now in
+    all_from_yields_List (λ b. eqb b 0) _ _ _ c.all.ensures.ran (YieldsList-from_slice f cc) (λ x b q k. search (rules, tests)) ∙ zeros-all f

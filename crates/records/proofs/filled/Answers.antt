@@ -1,16 +1,15 @@
-use mathlib.Core.Path.{◌∙◌}
-use native.Mathlib.Nat.{zero-add}
-use Rattle.fields.proofs.Partings.{first-here, first_on, first-none}
+-- What is taken is what stands before the first zero byte.
+use Rattle.std.proofs.Common.{length, eqb, not, ap, ◌∙◌, rules, tests}
+use Rattle.std.proofs.lemmas.Iterator.{YieldsList-from_slice}
+use Rattle.std.proofs.lemmas.Iterator.Consumers.{count_from_yields_List}
+use Rattle.std.proofs.lemmas.Iterator.Search.{YieldsList-from_take_while}
+use Rattle.records.proofs.ZeroFill.{filled-taken}
 use Rattle.records.proofs.filled.Goals as goal
 
-pub loop-i-init : goal.loop-i-init
-loop-i-init c = zero-add _
-
-pub returns-then-f-i-eq0 : goal.returns-then-f-i-eq0
-returns-then-f-i-eq0 c = first-here 0 _ _ c.loop-i-test.true c.if-f-i-eq0.true ∙ c.loop-i.invariant
-
-pub loop-i-preserved : goal.loop-i-preserved
-loop-i-preserved c = first_on 0 _ _ c.loop-i-test.true c.if-f-i-eq0.false ∙ c.loop-i.invariant
-
 pub returns : goal.returns
-returns c = first-none 0 _ _ c.loop-i-test.false ∙ c.loop-i.invariant
+returns c =
+    let f = c.args.f.now in
+    let t = c.take_while.ensures in
+    count_from_yields_List c.take_while.result _ c.count.ensures.ran
+    (YieldsList-from_take_while _ (λ b. not (eqb b 0)) (YieldsList-from_slice f cc) t.closure t.done (λ x b q k. search (rules, tests)))
+    ∙ ap length (filled-taken f)

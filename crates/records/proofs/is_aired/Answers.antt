@@ -1,21 +1,20 @@
 -- Its unused fields, and its header with its year.
-use mathlib.Core.Path.{sym, ◌∙◌}
-use mathlib.Core.List.{[], ◌∷◌}
-use Rattle.octets.proofs.Tests.{one-fails}
-use Rattle.octets.proofs.Everys.{last-decides}
-use Rattle.records.specs.Record.{key, aired_in, behind, aired_tests}
+use Rattle.std.proofs.Common.{◌≡◌, ◌&&◌, rules, ◌∙◌}
+use Rattle.records.specs.Record.{key, aired_in, behind, zeros, dated_ok}
+use Rattle.records.proofs.Judging.{asked, not-asked, third-decides, third-not-asked}
 use Rattle.records.proofs.is_aired.Goals as goal
+use Rattle.records.proofs.is_aired.Goals.{then-are_zeros, else-are_zeros}
 
-pub returns-then-not-are_zeros : goal.returns-then-not-are_zeros
-unfolding key
-returns-then-not-are_zeros c = sym (one-fails 0 (aired_tests c.args.r.now) (sym c.are_zeros.ensures ∙ c.if-not-are_zeros.true))
-
-pub returns-then-not-is_dated : goal.returns-then-not-is_dated
-unfolding aired_in
-returns-then-not-is_dated c = sym (one-fails 1 (aired_tests c.args.r.now) (sym c.is_dated.ensures ∙ c.if-not-is_dated.true))
-
-pub returns : goal.returns
+pub returns-then-is_dated : goal.returns-then-is_dated
 unfolding key aired_in behind
-returns c =
-    c.are_zeros-2.ensures
-    ∙ sym (last-decides (_ ∷ _ ∷ []) _ (sym c.are_zeros.ensures ∙ c.if-not-are_zeros.false, (sym c.is_dated.ensures ∙ c.if-not-is_dated.false, tt)))
+returns-then-is_dated c =
+    let r = c.args.r.now in
+    let both : c.if-are_zeros.value ≡ (zeros (key r) && dated_ok (aired_in r)) = elim c.if-are_zeros.branch [ then-are_zeros w ↦ search (rules, asked) | else-are_zeros w ↦ search (rules, not-asked) ] in
+    c.are_zeros-then-is_dated.ensures ∙ third-decides _ _ _ both c.if-is_dated.true _
+
+pub returns-else-is_dated : goal.returns-else-is_dated
+unfolding key aired_in behind
+returns-else-is_dated c =
+    let r = c.args.r.now in
+    let both : c.if-are_zeros.value ≡ (zeros (key r) && dated_ok (aired_in r)) = elim c.if-are_zeros.branch [ then-are_zeros w ↦ search (rules, asked) | else-are_zeros w ↦ search (rules, not-asked) ] in
+    third-not-asked _ _ _ both c.if-is_dated.false _

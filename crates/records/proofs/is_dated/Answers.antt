@@ -1,21 +1,29 @@
 -- The header is read, then its year and its day are judged.
-use mathlib.Core.Path.{sym}
-use Rattle.octets.proofs.Tests.{below-between, above-between}
+use Rattle.std.proofs.Common.{ℕ, ◌∙◌, sym, arith}
+use Rattle.std.proofs.lemmas.Map.Keys.{le_from_is_le}
+use lib.Seq.{length-take-le}
 use Rattle.records.specs.Record.{header_of}
-use Rattle.records.proofs.Judging.{dated-not, year-out, day-decides}
+use Rattle.records.proofs.Judging.{dated-not, not-within, year-out, day-decides}
 use Rattle.records.proofs.is_dated.Goals as goal
 
-pub returns-then-read-ne0 : goal.returns-then-read-ne0
+pub slice_bounds-header_in-end : goal.slice_bounds-header_in-end
+slice_bounds-header_in-end c = omega (arith, length-take-le {A = ℕ})
+
+pub returns-then-contains : goal.returns-then-contains
 unfolding header_of
-returns-then-read-ne0 c = sym (dated-not c.args.g.now _ c.header_in-read.ensures c.if-read-ne0.true)
+returns-then-contains c =
+    let within = c.if-contains.ensures.cases in
+    let low = le_from_is_le 2000 _ (rw c.new.ensures.start at within.0) in
+    let high = le_from_is_le _ 2099 (rw c.new.ensures.end at within.1) in
+    c.has_day.ensures ∙ day-decides c.args.g.now _ c.year_in-year.ensures _ (sym c.in-Some.is ∙ c.header_in.ensures) low high
 
-pub returns-then-year-lt2000 : goal.returns-then-year-lt2000
-returns-then-year-lt2000 c = sym (year-out _ _ c.year_in-year.ensures (below-between 2000 2099 _ c.if-year-lt2000.true))
-
-pub returns-then-year-gt2099 : goal.returns-then-year-gt2099
-returns-then-year-gt2099 c = sym (year-out _ _ c.year_in-year.ensures (above-between 2000 2099 _ c.if-year-gt2099.true))
-
-pub returns : goal.returns
+pub returns-else-contains : goal.returns-else-contains
 unfolding header_of
-returns c =
-    day-decides c.args.g.now _ c.header_in-read.ensures c.if-read-ne0.false _ c.year_in-year.ensures c.if-year-lt2000.false c.if-year-gt2099.false _ c.has_day.ensures
+returns-else-contains c =
+    let n = c.new.ensures in
+    let out = rw (n.start, n.end, n.exhausted) at c.if-contains.ensures.value in
+    c.if-contains.false ∙ year-out c.args.g.now _ c.year_in-year.ensures (not-within 2000 2099 _ (sym out))
+
+pub returns-in-None : goal.returns-in-None
+unfolding header_of
+returns-in-None c = dated-not c.args.g.now (sym c.in-None.is ∙ c.header_in.ensures)

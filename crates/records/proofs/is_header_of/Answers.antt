@@ -1,12 +1,10 @@
 -- The header is read, and its day, hour and minute are judged.
-use mathlib.Core.Path.{sym}
+use mathlib.Core.Path.{sym, ◌∙◌}
 use Rattle.records.proofs.Judging.{header-not, stamp-decides}
 use Rattle.records.proofs.is_header_of.Goals as goal
 
-pub returns-then-read-ne0 : goal.returns-then-read-ne0
-returns-then-read-ne0 c =
-    sym (header-not _ _ c.header_in-read.ensures _ c.requires c.if-read-ne0.true)
+pub returns-in-Some : goal.returns-in-Some
+returns-in-Some c = stamp-decides _ _ c.requires _ (sym c.in-Some.is ∙ c.header_in.ensures) _ c.is_on.ensures
 
-pub returns : goal.returns
-returns c =
-    stamp-decides _ _ c.header_in-read.ensures _ c.requires c.if-read-ne0.false _ c.is_on.ensures
+pub returns-in-None : goal.returns-in-None
+returns-in-None c = sym (header-not _ _ c.requires (sym c.in-None.is ∙ c.header_in.ensures))

@@ -1,19 +1,20 @@
 -- Its key and its unused fields in turn.
-use mathlib.Core.Path.{sym, ◌∙◌}
-use mathlib.Core.List.{[], ◌∷◌}
-use Rattle.octets.proofs.Tests.{one-fails}
-use Rattle.octets.proofs.Everys.{last-decides}
-use Rattle.records.specs.Record.{key, header, rest, withdrawal_tests}
+use Rattle.std.proofs.Common.{◌≡◌, ◌&&◌, rules, ◌∙◌}
+use Rattle.records.specs.Record.{key, header, rest, key_ok, zeros}
+use Rattle.records.proofs.Judging.{asked, not-asked, third-decides, third-not-asked}
 use Rattle.records.proofs.is_withdrawal.Goals as goal
+use Rattle.records.proofs.is_withdrawal.Goals.{then-is_key, else-is_key}
 
-pub returns-then-not-is_key : goal.returns-then-not-is_key
-unfolding key
-returns-then-not-is_key c = sym (one-fails 0 (withdrawal_tests c.args.r.now) (sym c.is_key.ensures ∙ c.if-not-is_key.true))
-
-pub returns-then-not-are_zeros : goal.returns-then-not-are_zeros
-unfolding header
-returns-then-not-are_zeros c = sym (one-fails 1 (withdrawal_tests c.args.r.now) (sym c.are_zeros.ensures ∙ c.if-not-are_zeros.true))
-
-pub returns : goal.returns
+pub returns-then-are_zeros : goal.returns-then-are_zeros
 unfolding key header rest
-returns c = c.are_zeros-2.ensures ∙ sym (last-decides (_ ∷ _ ∷ []) _ (sym c.is_key.ensures ∙ c.if-not-is_key.false, (sym c.are_zeros.ensures ∙ c.if-not-are_zeros.false, tt)))
+returns-then-are_zeros c =
+    let r = c.args.r.now in
+    let both : c.if-is_key.value ≡ (key_ok (key r) && zeros (header r)) = elim c.if-is_key.branch [ then-is_key w ↦ search (rules, asked) | else-is_key w ↦ search (rules, not-asked) ] in
+    c.are_zeros-then-are_zeros.ensures ∙ third-decides _ _ _ both c.if-are_zeros.true _
+
+pub returns-else-are_zeros : goal.returns-else-are_zeros
+unfolding key header rest
+returns-else-are_zeros c =
+    let r = c.args.r.now in
+    let both : c.if-is_key.value ≡ (key_ok (key r) && zeros (header r)) = elim c.if-is_key.branch [ then-is_key w ↦ search (rules, asked) | else-is_key w ↦ search (rules, not-asked) ] in
+    third-not-asked _ _ _ both c.if-are_zeros.false _

@@ -5,4 +5,4 @@ use Rattle.records.proofs.year_in.Goals as goal
 
 pub returns : goal.returns
 unfolding year_in
-returns c = omega (arith, c.wide.ensures.0, c.wide-2.ensures.0)
+returns c = omega (arith, c.from_be_bytes.ensures, c.from.ensures)

@@ -1,30 +1,23 @@
--- The name, the choice and the line's end.
-use mathlib.Core.List.{[], ◌∷◌}
-use mathlib.Core.Path.{refl}
+-- Three runs, one behind the other.
 use native.Mathlib.Omega.{arith}
 use lib.ListN.{length-append}
 use Rattle.octets.specs.Text.{bytes}
-use Rattle.sentence.proofs.Puts.{first, next, put_all}
-use Rattle.report.specs.Lines.{line, audio_words, audio_line}
+use Rattle.sentence.proofs.Writers.{then}
+use Rattle.report.specs.Lines.{line, audio_line}
 use Rattle.report.proofs.put_audio.Goals as goal
-
-pub put-a-requires : goal.put-a-requires
-unfolding audio_line line bytes
-put-a-requires c =
-    omega (arith, simp length-append at c.requires)
-
-pub put_audio_words-b-requires : goal.put_audio_words-b-requires
-unfolding audio_line line bytes
-put_audio_words-b-requires c =
-    omega (arith, simp length-append at c.requires)
 
 pub put-requires : goal.put-requires
 unfolding audio_line line bytes
-put-requires c =
-    omega (arith, simp length-append at c.requires)
+put-requires c = omega (arith, simp length-append at c.requires)
+
+pub put_audio_words-requires : goal.put_audio_words-requires
+unfolding audio_line line bytes
+put_audio_words-requires c = omega (arith, simp length-append at c.requires)
+
+pub put-requires-2 : goal.put-requires-2
+unfolding audio_line line bytes
+put-requires-2 c = omega (arith, simp length-append at c.requires)
 
 pub returns : goal.returns
 unfolding audio_line line bytes
-returns c =
-    let one = first c.args.out.now c.args.at (bytes "audio ") (c.put-a.ensures.value, c.put-a.ensures.out_after) in
-    let two = next one (audio_words c.args.audio c.args.uri.now) (c.put_audio_words-b.ensures.value, c.put_audio_words-b.ensures.out_after) in let both = put_all (next two (10 ∷ []) (c.put.ensures.value, c.put.ensures.out_after)) _ refl in record { value = both.0; out_after = both.1 }
+returns c = then (then c.put.ensures c.put_audio_words.ensures) c.put-2.ensures

@@ -4,43 +4,39 @@ use mathlib.Core.Path.{ap}
 use native.Mathlib.Omega.{arith}
 use lib.ListN.{length}
 use Rattle.octets.specs.Text.{bytes}
-use Rattle.sentence.proofs.Puts.{first, put_all}
+use Rattle.sentence.proofs.Writers.{named}
 use Rattle.report.proofs.Choices.{audio-none}
-use Rattle.report.specs.Lines.{kind_then_uri, audio_words}
+use Rattle.report.specs.Lines.{audio_words}
 use Rattle.report.proofs.put_audio_words.Goals as goal
 
 pub put_spaced-requires : goal.put_spaced-requires
 unfolding audio_words bytes
-put_spaced-requires c =
-    omega (arith, ap (λ (k : ℕ). length (audio_words k c.args.uri.now)) c.if-audio-eq1.true, c.requires)
+put_spaced-requires c = omega (arith, ap (λ (k : ℕ). length (audio_words k c.args.uri.now)) c.in-1.is, c.requires)
 
-pub returns-then-audio-eq1 : goal.returns-then-audio-eq1
+pub put_spaced-requires-in-2 : goal.put_spaced-requires-in-2
 unfolding audio_words bytes
-returns-then-audio-eq1 c = let both = put_all (first c.args.out.now c.args.at (kind_then_uri (bytes "mp3") c.args.uri.now) (c.put_spaced.ensures.value, c.put_spaced.ensures.out_after)) _ (ap (λ (k : ℕ). audio_words k c.args.uri.now) c.if-audio-eq1.true) in record { value = both.0; out_after = both.1 }
+put_spaced-requires-in-2 c = omega (arith, ap (λ (k : ℕ). length (audio_words k c.args.uri.now)) c.in-2.is, c.requires)
 
-pub put_spaced-requires-then-audio-eq2 : goal.put_spaced-requires-then-audio-eq2
+pub put_spaced-requires-in-3 : goal.put_spaced-requires-in-3
 unfolding audio_words bytes
-put_spaced-requires-then-audio-eq2 c =
-    omega (arith, ap (λ (k : ℕ). length (audio_words k c.args.uri.now)) c.if-audio-eq2.true, c.requires)
-
-pub returns-then-audio-eq2 : goal.returns-then-audio-eq2
-unfolding audio_words bytes
-returns-then-audio-eq2 c = let both = put_all (first c.args.out.now c.args.at (kind_then_uri (bytes "wav") c.args.uri.now) (c.put_spaced-then-audio-eq2.ensures.value, c.put_spaced-then-audio-eq2.ensures.out_after)) _ (ap (λ (k : ℕ). audio_words k c.args.uri.now) c.if-audio-eq2.true) in record { value = both.0; out_after = both.1 }
-
-pub put_spaced-requires-then-audio-eq3 : goal.put_spaced-requires-then-audio-eq3
-unfolding audio_words bytes
-put_spaced-requires-then-audio-eq3 c =
-    omega (arith, ap (λ (k : ℕ). length (audio_words k c.args.uri.now)) c.if-audio-eq3.true, c.requires)
-
-pub returns-then-audio-eq3 : goal.returns-then-audio-eq3
-unfolding audio_words bytes
-returns-then-audio-eq3 c = let both = put_all (first c.args.out.now c.args.at (kind_then_uri (bytes "stream") c.args.uri.now) (c.put_spaced-then-audio-eq3.ensures.value, c.put_spaced-then-audio-eq3.ensures.out_after)) _ (ap (λ (k : ℕ). audio_words k c.args.uri.now) c.if-audio-eq3.true) in record { value = both.0; out_after = both.1 }
+put_spaced-requires-in-3 c = omega (arith, ap (λ (k : ℕ). length (audio_words k c.args.uri.now)) c.in-3.is, c.requires)
 
 pub put-requires : goal.put-requires
 unfolding bytes
-put-requires c =
-    omega (arith, ap length (audio-none c.args.audio c.args.uri.now c.if-audio-eq1.false c.if-audio-eq2.false c.if-audio-eq3.false), c.requires)
+put-requires c = omega (arith, ap length (audio-none c.args.audio c.args.uri.now (λ h. omega arith) (λ h. omega arith) (λ h. omega arith)), c.requires)
 
-pub returns : goal.returns
+pub returns-in-1 : goal.returns-in-1
+unfolding audio_words bytes
+returns-in-1 c = named c.put_spaced.ensures _ (ap (λ (k : ℕ). audio_words k c.args.uri.now) c.in-1.is)
+
+pub returns-in-2 : goal.returns-in-2
+unfolding audio_words bytes
+returns-in-2 c = named c.put_spaced-in-2.ensures _ (ap (λ (k : ℕ). audio_words k c.args.uri.now) c.in-2.is)
+
+pub returns-in-3 : goal.returns-in-3
+unfolding audio_words bytes
+returns-in-3 c = named c.put_spaced-in-3.ensures _ (ap (λ (k : ℕ). audio_words k c.args.uri.now) c.in-3.is)
+
+pub returns-in_default : goal.returns-in_default
 unfolding bytes
-returns c = let both = put_all (first c.args.out.now c.args.at (bytes "none") (c.put.ensures.value, c.put.ensures.out_after)) _ (audio-none _ _ c.if-audio-eq1.false c.if-audio-eq2.false c.if-audio-eq3.false) in record { value = both.0; out_after = both.1 }
+returns-in_default c = named c.put.ensures _ (audio-none _ _ (λ h. omega arith) (λ h. omega arith) (λ h. omega arith))

@@ -2,19 +2,20 @@
 use mathlib.Core.Path.{◌≡◌}
 use native.Mathlib.Omega.{arith}
 use lib.ListN.{length-append}
-use Rattle.sentence.proofs.Puts.{first, next}
-use Rattle.wording.proofs.Texts.{put-start}
+use borrow.Author.Rules.{rules}
+use Rattle.sentence.proofs.Writers.{then, named}
 use Rattle.report.proofs.Choices.{lines-alone, lines-all}
-use Rattle.report.specs.Lines.{number_line, alert_lines, lines_of}
+use Rattle.report.specs.Lines.{lines_of}
 use Rattle.report.proofs.put_lines.Goals as goal
 
-pub put_number-a-requires : goal.put_number-a-requires
+pub put_number-requires : goal.put_number-requires
 unfolding lines_of
-put_number-a-requires c =
-    omega (arith, simp length-append at c.requires)
+put_number-requires c = omega (arith, simp length-append at c.requires)
 
 pub returns-then-number-ne0 : goal.returns-then-number-ne0
-returns-then-number-ne0 c = let both = put-start (first c.args.out.now 0 (number_line c.args.number c.args.field) (c.put_number-a.ensures.value, c.put_number-a.ensures.out_after)) _ (lines-alone _ _ _ _ _ _ _ c.if-number-ne0.true) in record { value = both.0; out_after = both.1 }
+returns-then-number-ne0 c =
+    let all = named c.put_number.ensures _ (lines-alone _ _ c.args.header.now c.args.audio c.args.uri.now c.args.carry c.args.text.now c.if-number-ne0.true) in
+    search (rules, all.ends, all.is, all.same)
 
 pub put_alert-requires : goal.put_alert-requires
 put_alert-requires c =
@@ -23,4 +24,5 @@ put_alert-requires c =
 
 pub returns : goal.returns
 returns c =
-    let one = first c.args.out.now 0 (number_line c.args.number c.args.field) (c.put_number-a.ensures.value, c.put_number-a.ensures.out_after) in let both = put-start (next one (alert_lines c.args.header.now c.args.audio c.args.uri.now c.args.carry c.args.text.now) (c.put_alert.ensures.value, c.put_alert.ensures.out_after)) _ (lines-all _ _ _ _ _ _ _ c.if-number-ne0.false) in record { value = both.0; out_after = both.1 }
+    let all = named (then c.put_number.ensures c.put_alert.ensures) _ (lines-all _ _ _ _ _ _ _ c.if-number-ne0.false) in
+    search (rules, all.ends, all.is, all.same)

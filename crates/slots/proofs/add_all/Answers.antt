@@ -7,7 +7,7 @@ use lib.Seq.{length-take-le}
 use Rattle.ledger.specs.Sorted.{insert, insert_all}
 use Rattle.slots.specs.WorkingSlots.{rec, flat}
 use Rattle.slots.specs.Slots.{recs}
-use Rattle.slots.proofs.Records.{recs-length, batch-grows, start-bytes, next-insert, next-rest}
+use Rattle.slots.proofs.Records.{recs-length, item, batch-grows, start-bytes, next-insert, next-rest}
 use Rattle.slots.proofs.add_all.Goals as goal
 
 -- in a turn: what the next record makes of the board, that it is within the whole, and that the bytes past it are as they were
@@ -15,52 +15,51 @@ module _
     (s₀ batch s : List ℕ)
     (n m i k : ℕ)
     (asked : (n * 384 ≤ length s₀) × (m * 384 ≤ length batch) × (length (insert_all (recs m batch) (recs n s₀)) * 384 ≤ length s₀))
-    (held : (i ≤ m) × (length s ≡ length s₀) × (k ≡ length (insert_all (recs i batch) (recs n s₀))) × (s ≡ flat (insert_all (recs i batch) (recs n s₀)) ++ drop (k * 384) s₀))
+    (held : (length s ≡ length s₀) × (k ≡ length (insert_all (recs i batch) (recs n s₀))) × (s ≡ flat (insert_all (recs i batch) (recs n s₀)) ++ drop (k * 384) s₀))
     (more : i < m)
   where
     fits : i * 384 ≤ length batch
     fits = omega (arith, asked.1, more)
 
     step : (r : List ℕ) → r ≡ rec i batch → insert r (recs k s) ≡ insert_all (recs (i + 1) batch) (recs n s₀)
-    step r e = ap (λ (x : List ℕ). insert x (recs k s)) e ∙ next-insert s₀ batch s n i k asked.0 fits held.3 held.2
+    step r e = ap (λ (x : List ℕ). insert x (recs k s)) e ∙ next-insert s₀ batch s n i k asked.0 fits held.2 held.1
 
     rest : (j : ℕ) → k ≤ j → drop (j * 384) s ≡ drop (j * 384) s₀
-    rest j h = next-rest s₀ batch s n i k asked.0 fits held.3 held.2 j h
+    rest j h = next-rest s₀ batch s n i k asked.0 fits held.2 held.1 j h
 
     grown : (k ≤ length (insert_all (recs (i + 1) batch) (recs n s₀))) × (length (insert_all (recs (i + 1) batch) (recs n s₀)) * 384 ≤ length s₀)
     grown = (
-      omega (arith, held.2, batch-grows i (i + 1) batch (recs n s₀) (omega arith)),
+      omega (arith, held.1, batch-grows i (i + 1) batch (recs n s₀) (omega arith)),
       omega (arith, asked.2, batch-grows (i + 1) m batch (recs n s₀) (omega (arith, more))),
     )
 
-pub loop-i-init : goal.loop-i-init
-loop-i-init c =
+pub loop-r-init : goal.loop-r-init
+loop-r-init c =
     let a = c.args in
-    (omega arith, refl, sym (recs-length a.n a.s.now), start-bytes a.n a.s.now)
+    (refl, sym (recs-length a.n a.s.now), start-bytes a.n a.s.now)
 
 pub add-k-requires : goal.add-k-requires
 add-k-requires c =
-    let l = c.loop-i in
+    let l = c.loop-r in
     let a = c.args in
-    (omega (arith, grown a.s.now a.batch.now l.s a.n a.m l.i l.k c.requires l.invariant c.loop-i-test.true, l.invariant.1, l.invariant.2), rw (step a.s.now a.batch.now l.s a.n a.m l.i l.k c.requires l.invariant c.loop-i-test.true _ c.record_at.ensures) (omega (arith, grown a.s.now a.batch.now l.s a.n a.m l.i l.k c.requires l.invariant c.loop-i-test.true, l.invariant.1)), ap length c.record_at.ensures ∙ length-take-le 384 (drop (l.i * 384) a.batch.now) (rw length-drop (omega arith)))
+    (omega (arith, grown a.s.now a.batch.now l.s a.n a.m l.r-index l.k c.requires l.invariant (item _ _ _ _ c.first-r-items.ensures c.loop-r-test.true).0, l.invariant.0, l.invariant.1), rw (step a.s.now a.batch.now l.s a.n a.m l.r-index l.k c.requires l.invariant (item _ _ _ _ c.first-r-items.ensures c.loop-r-test.true).0 _ (item _ _ _ _ c.first-r-items.ensures c.loop-r-test.true).1) (omega (arith, grown a.s.now a.batch.now l.s a.n a.m l.r-index l.k c.requires l.invariant (item _ _ _ _ c.first-r-items.ensures c.loop-r-test.true).0, l.invariant.0)), ap length (item _ _ _ _ c.first-r-items.ensures c.loop-r-test.true).1 ∙ length-take-le 384 (drop (l.r-index * 384) a.batch.now) (rw length-drop (omega (arith, (item _ _ _ _ c.first-r-items.ensures c.loop-r-test.true).0, c.requires.1))))
 
-pub loop-i-preserved : goal.loop-i-preserved
-loop-i-preserved c =
-    let l = c.loop-i in
+pub loop-r-preserved : goal.loop-r-preserved
+loop-r-preserved c =
+    let l = c.loop-r in
     let a = c.args in
-    let is = step a.s.now a.batch.now l.s a.n a.m l.i l.k c.requires l.invariant c.loop-i-test.true _ c.record_at.ensures in
+    let is = step a.s.now a.batch.now l.s a.n a.m l.r-index l.k c.requires l.invariant (item _ _ _ _ c.first-r-items.ensures c.loop-r-test.true).0 _ (item _ _ _ _ c.first-r-items.ensures c.loop-r-test.true).1 in
     let count = c.add-k.ensures.value ∙ ap length is in (
-      omega arith,
-      c.add-k.auto.s ∙ l.invariant.1,
+      c.add-k.auto.s ∙ l.invariant.0,
       count,
-      c.add-k.ensures.s_after ∙ ap₂ (λ (x : List (List ℕ)) (y : List ℕ). flat x ++ y) is (rest a.s.now a.batch.now l.s a.n a.m l.i l.k c.requires l.invariant c.loop-i-test.true c.add-k.result (omega (arith, count, l.invariant.2, batch-grows l.i (l.i + 1) a.batch.now (recs a.n a.s.now) (omega arith)))),
+      c.add-k.ensures.s_after ∙ ap₂ (λ (x : List (List ℕ)) (y : List ℕ). flat x ++ y) is (rest a.s.now a.batch.now l.s a.n a.m l.r-index l.k c.requires l.invariant (item _ _ _ _ c.first-r-items.ensures c.loop-r-test.true).0 c.add-k.result (omega (arith, count, l.invariant.1, batch-grows l.r-index (l.r-index + 1) a.batch.now (recs a.n a.s.now) (omega arith)))),
     )
 
 pub shape_of-s : goal.shape_of-s
-shape_of-s c = c.loop-i.invariant.1
+shape_of-s c = c.loop-r.invariant.0
 
 pub returns : goal.returns
 returns c =
-    let l = c.loop-i in
+    let l = c.loop-r in
     let a = c.args in
-    let e : l.i ≡ a.m = omega arith in record { value = subst (λ (j : ℕ). l.k ≡ length (insert_all (recs j a.batch.now) (recs a.n a.s.now))) e l.invariant.2; s_after = subst (λ (j : ℕ). l.s ≡ flat (insert_all (recs j a.batch.now) (recs a.n a.s.now)) ++ drop (l.k * 384) a.s.now) e l.invariant.3 }
+    let e : l.r-index ≡ a.m = omega (arith, ap length c.first-r-items.ensures, recs-length a.m a.batch.now) in record { value = subst (λ (j : ℕ). l.k ≡ length (insert_all (recs j a.batch.now) (recs a.n a.s.now))) e l.invariant.1; s_after = subst (λ (j : ℕ). l.s ≡ flat (insert_all (recs j a.batch.now) (recs a.n a.s.now)) ++ drop (l.k * 384) a.s.now) e l.invariant.2 }

@@ -1,5 +1,5 @@
 -- After i records the board is the list with those inserted, and its own bytes behind it.
-use Prim.Native.Nat.{◌*◌, ◌-◌, ◌≤◌}
+use Prim.Native.Nat.{◌*◌}
 use mathlib.Core.List.{◌++◌}
 use mathlib.Core.Path.{◌≡◌}
 use lib.ListN.{length, drop}
@@ -8,8 +8,5 @@ use Rattle.slots.specs.WorkingSlots.{flat}
 use Rattle.slots.specs.Slots.{recs}
 use Rattle.slots.proofs.add_all.Given as goal
 
-abbrev pub invariant-loop-i : goal.invariant-loop-i
-invariant-loop-i l = (l.i ≤ l.m) × (length l.s ≡ length l.initial.s) × (l.k ≡ length (insert_all (recs l.i l.batch) (recs l.n l.initial.s))) × (l.s ≡ flat (insert_all (recs l.i l.batch) (recs l.n l.initial.s)) ++ drop (l.k * 384) l.initial.s)
-
-abbrev pub decreases-loop-i : goal.decreases-loop-i
-decreases-loop-i l = l.m - l.i
+abbrev pub invariant-loop-r : goal.invariant-loop-r
+invariant-loop-r l = (length l.s ≡ length l.initial.s) × (l.k ≡ length (insert_all (recs l.r-index l.batch) (recs l.n l.initial.s))) × (l.s ≡ flat (insert_all (recs l.r-index l.batch) (recs l.n l.initial.s)) ++ drop (l.k * 384) l.initial.s)

@@ -4,4 +4,4 @@ use Rattle.records.specs.Record.{aired}
 use Rattle.slots.proofs.aired_at.Goals as goal
 
 pub returns : goal.returns
-returns c = c.aired.ensures ∙ ap aired c.header_at-h.ensures
+returns c = c.aired.ensures ∙ ap aired c.header_at.ensures

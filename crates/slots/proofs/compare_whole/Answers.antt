@@ -4,4 +4,4 @@ use Rattle.octets.specs.Order.{cmp}
 use Rattle.slots.proofs.compare_whole.Goals as goal
 
 pub returns : goal.returns
-returns c = c.compare.ensures ∙ ap (cmp c.args.h.now) c.header_at-at.ensures
+returns c = c.compare.ensures ∙ ap (cmp c.args.h.now) c.header_at.ensures

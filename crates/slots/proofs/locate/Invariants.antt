@@ -1,5 +1,4 @@
 -- The place among all the records is that among those left, as many further on as have been passed.
-use Prim.Native.Nat.{◌-◌, ◌≤◌}
 use mathlib.Core.Path.{◌≡◌}
 use lib.ListN.{drop}
 use Rattle.slots.specs.Slots.{recs}
@@ -8,7 +7,4 @@ use Rattle.slots.proofs.Records.{laters}
 use Rattle.slots.proofs.locate.Given as goal
 
 abbrev pub invariant-loop-i : goal.invariant-loop-i
-invariant-loop-i l = (l.i ≤ l.n) × (place_of l.r (recs l.n l.s) ≡ laters l.i (place_of l.r (drop l.i (recs l.n l.s))))
-
-abbrev pub decreases-loop-i : goal.decreases-loop-i
-decreases-loop-i l = l.n - l.i
+invariant-loop-i l = place_of l.r (recs l.n l.s) ≡ laters l.i (place_of l.r (drop l.i (recs l.n l.s)))

@@ -3,11 +3,8 @@ use Rattle.slots.specs.Slots.{recs}
 use Rattle.ledger.specs.Sorted.{insert_all}
 use lib.ListN.{length}
 use mathlib.Core.Path.{◌≡◌}
-use Prim.Native.Nat.{◌+◌, ◌-◌, ◌≤◌}
+use Prim.Native.Nat.{◌+◌, ◌≤◌}
 use Rattle.slots.proofs.tally.Given as goal
 
 abbrev pub invariant-loop-i : goal.invariant-loop-i
-invariant-loop-i l = (l.i ≤ l.m) × (l.k ≤ l.i) × (l.k + l.n ≡ length (insert_all (recs l.i l.batch) (recs l.n l.s)))
-
-abbrev pub decreases-loop-i : goal.decreases-loop-i
-decreases-loop-i l = l.m - l.i
+invariant-loop-i l = (l.count ≤ l.i) × (l.count + l.n ≡ length (insert_all (recs l.i l.batch) (recs l.n l.s)))

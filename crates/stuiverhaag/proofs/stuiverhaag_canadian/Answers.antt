@@ -5,11 +5,11 @@ use Rattle.stuiverhaag.specs.Packed.{packed_text}
 use Rattle.stuiverhaag.proofs.stuiverhaag_canadian.Goals as goal
 
 pub pack_text-requires : goal.pack_text-requires
-pack_text-requires c = canadian-narrow _ _ _ c.convert-t.result c.convert-t.ensures.value
+pack_text-requires c = canadian-narrow _ _ _ c.convert.result c.convert.ensures.value
 
 pub returns : goal.returns
 returns c = record {
-  value = c.pack_text.ensures ∙ ap packed_text c.convert-t.ensures.value;
-  text_after = c.convert-t.ensures.text_after;
-  uri_after = c.convert-t.ensures.uri_after;
+  value = c.pack_text.ensures ∙ ap packed_text c.convert.ensures.value;
+  text_after = c.convert.ensures.text_after;
+  uri_after = c.convert.ensures.uri_after;
 }

@@ -5,7 +5,7 @@ use Rattle.stuiverhaag.specs.Packed.{packed_headed}
 use Rattle.stuiverhaag.proofs.stuiverhaag_header.Goals as goal
 
 pub pack_headed-requires : goal.pack_headed-requires
-pack_headed-requires c = header-narrow _ _ _ c.header-c.result c.header-c.ensures.value
+pack_headed-requires c = header-narrow _ _ _ c.header.result c.header.ensures.value
 
 pub returns : goal.returns
-returns c = record { value = c.pack_headed.ensures ∙ ap packed_headed c.header-c.ensures.value; header_after = c.header-c.ensures.out_after }
+returns c = record { value = c.pack_headed.ensures ∙ ap packed_headed c.header.ensures.value; header_after = c.header.ensures.out_after }

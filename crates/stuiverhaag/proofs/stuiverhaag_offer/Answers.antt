@@ -4,4 +4,4 @@ use Rattle.stuiverhaag.specs.Packed.{packed_offered}
 use Rattle.stuiverhaag.proofs.stuiverhaag_offer.Goals as goal
 
 pub returns : goal.returns
-returns c = record { value = ap packed_offered c.offer-o.ensures.value; s_after = c.offer-o.ensures.s_after }
+returns c = record { value = rw (c.from.ensures, c.from-2.ensures) (ap packed_offered c.offer-o.ensures.value); s_after = c.offer-o.ensures.s_after }

@@ -5,11 +5,11 @@ use Rattle.stuiverhaag.specs.Packed.{packed_text}
 use Rattle.stuiverhaag.proofs.stuiverhaag_text.Goals as goal
 
 pub pack_text-requires : goal.pack_text-requires
-pack_text-requires c = text-narrow _ _ _ _ c.text-t.result c.text-t.ensures.value
+pack_text-requires c = text-narrow _ _ _ _ c.text.result c.text.ensures.value
 
 pub returns : goal.returns
 returns c = record {
-  value = c.pack_text.ensures ∙ ap packed_text c.text-t.ensures.value;
-  text_after = c.text-t.ensures.text_after;
-  uri_after = c.text-t.ensures.uri_after;
+  value = c.pack_text.ensures ∙ ap packed_text c.text.ensures.value;
+  text_after = c.text.ensures.text_after;
+  uri_after = c.text.ensures.uri_after;
 }

@@ -5,26 +5,18 @@ use borrow.Author.Rules.{rules}
 use Rattle.pieces.proofs.Walks.{walk-stops, walk-stuck}
 use Rattle.tags.specs.Attributes.{attr_at}
 use Rattle.tags.specs.Tags.{taken, take_at}
-use Rattle.tags.specs.declared.Attr.TheVariants.{Of, Last, None}
-use Rattle.tags.proofs.Goes.{Read, attr-read, take-goes}
+use Rattle.tags.specs.declared.Attr.TheVariants.{Of, Last, Bad}
+use Rattle.tags.proofs.Goes.{Read, attr-read}
 use Rattle.tags.proofs.Trees.{tree-full}
 use Rattle.tags.proofs.Keeps.{kept-starts, kept-moves, met, rest-taken, rest-refused}
 use Rattle.tags.proofs.+many.Goals as goal
 
 -- the attribute that was read, and that it stays inside
-read : (t : ℕ) (c : goal.After-names-1 t) → attr_at c.args.s.now c.loop-n.i ≡ Of c.in-Of.j c.in-Of.e c.in-Of.field-2 c.in-Of.w
-read t c = sym c.attribute-x.ensures ∙ c.in-Of.is
+read : (t : ℕ) (c : goal.After-names-1 t) → attr_at c.args.s.now c.loop-n.i ≡ Of c.in-Of.name c.in-Of.name_end c.in-Of.value c.in-Of.end
+read t c = sym c.attribute.ensures ∙ c.in-Of.is
 
-inside : (t : ℕ) (c : goal.After-names-1 t) → Read c.args.s.now c.loop-n.i c.in-Of.j c.in-Of.e c.in-Of.w
-inside t c = attr-read c.args.s.now c.loop-n.i c.in-Of.j c.in-Of.e c.in-Of.field-2 c.in-Of.w (read t c)
-
--- the attribute that was read, and that it stays inside
-read-at-Then-not-add : (t : ℕ) (c : goal.Then-not-add t) → attr_at c.args.s.now c.loop-n.i ≡ Of c.in-Of.j c.in-Of.e c.in-Of.field-2 c.in-Of.w
-read-at-Then-not-add t c = sym c.attribute-x.ensures ∙ c.in-Of.is
-
--- the attribute that was read, and that it stays inside
-read-at-Else-not-add : (t : ℕ) (c : goal.Else-not-add t) → attr_at c.args.s.now c.loop-n.i ≡ Of c.in-Of.j c.in-Of.e c.in-Of.field-2 c.in-Of.w
-read-at-Else-not-add t c = sym c.attribute-x.ensures ∙ c.in-Of.is
+inside : (t : ℕ) (c : goal.After-names-1 t) → Read c.args.s.now c.loop-n.i c.in-Of.name c.in-Of.name_end c.in-Of.end
+inside t c = attr-read c.args.s.now c.loop-n.i c.in-Of.name c.in-Of.name_end c.in-Of.value c.in-Of.end (read t c)
 
 pub loop-n-init : goal.loop-n-init
 loop-n-init t c = kept-starts c.args.s.now c.args.at c.requires.at_in_bounds
@@ -37,8 +29,8 @@ returns-then-not-add t c =
     let s = c.args.s.now in
     let at = c.args.at in
     let r = c.loop-n in
-    walk-stuck (take_at s at) s (take-goes s at) at r.i r.invariant.walking
-    (met s r.names at r.i r.n r.invariant r.i c.in-Of.j c.in-Of.e c.in-Of.field-2 c.in-Of.w (omega arith) (read-at-Then-not-add t c) (rw c.if-not-add.true at c.add.ensures))
+    walk-stuck (take_at s at) s at r.i r.invariant.walking
+    (met s r.names at r.i r.n r.invariant r.i c.in-Of.name c.in-Of.name_end c.in-Of.value c.in-Of.end (omega arith) (sym c.attribute.ensures ∙ c.in-Of.is) (rw c.if-not-add.true at c.add.ensures))
 
 pub returns-in-Last : goal.returns-in-Last
 unfolding take_at taken
@@ -46,17 +38,17 @@ returns-in-Last t c =
     let s = c.args.s.now in
     let at = c.args.at in
     let r = c.loop-n in
-    let o : attr_at s r.i ≡ Last c.in-Last.k = sym c.attribute-x.ensures ∙ c.in-Last.is in
-    walk-stops (take_at s at) s (take-goes s at) at r.i r.invariant.walking c.in-Last.k (rw o)
+    let o : attr_at s r.i ≡ Last c.in-Last.k = sym c.attribute.ensures ∙ c.in-Last.is in
+    walk-stops (take_at s at) s at r.i r.invariant.walking c.in-Last.k (rw o)
 
-pub returns-in-None : goal.returns-in-None
+pub returns-in-Bad : goal.returns-in-Bad
 unfolding take_at taken
-returns-in-None t c =
+returns-in-Bad t c =
     let s = c.args.s.now in
     let at = c.args.at in
     let r = c.loop-n in
-    let o : attr_at s r.i ≡ None = sym c.attribute-x.ensures ∙ c.in-None.is in
-    walk-stuck (take_at s at) s (take-goes s at) at r.i r.invariant.walking (rw o)
+    let o : attr_at s r.i ≡ Bad = sym c.attribute.ensures ∙ c.in-Bad.is in
+    walk-stuck (take_at s at) s at r.i r.invariant.walking (rw o)
 
 pub loop-n-preserved : goal.loop-n-preserved
 loop-n-preserved t c =
@@ -64,30 +56,28 @@ loop-n-preserved t c =
     let at = c.args.at in
     let r = c.loop-n in
     let new = rw c.if-not-add.false at c.add.ensures in
-    kept-moves s r.names at r.i r.n r.invariant c.in-Of.j c.in-Of.e c.in-Of.field-2 c.in-Of.w (read-at-Else-not-add t c) c.add.new.t (omega arith) new
+    kept-moves s r.names at r.i r.n r.invariant c.in-Of.name c.in-Of.name_end c.in-Of.value c.in-Of.end (sym c.attribute.ensures ∙ c.in-Of.is) c.add.new.t (omega arith) new
 
-pub many-z-requires : goal.many-z-requires
-many-z-requires t c =
+pub many-requires : goal.many-requires
+many-requires t c =
     let l = c.loop-n.invariant.far in
-    let w = c.loop-n.invariant.walking.within in
+    let w = c.loop-n.invariant.within in
     (omega arith, (w, search rules))
 
 pub apart-requires : goal.apart-requires
 apart-requires t c =
     let s = c.args.s.now in
     let r = c.loop-n in
-    record { at_in_bounds = r.invariant.walking.within; name_tree = tree-full s r.names r.n r.invariant.tree }
+    tree-full s r.names r.n r.invariant.tree
 
-pub returns-in-At : goal.returns-in-At
-returns-in-At t c =
+pub returns : goal.returns
+returns t c =
     let s = c.args.s.now in
-    let at = c.args.at in
     let r = c.loop-n in
-    c.apart.ensures ∙ rest-taken s r.names at r.i r.n r.invariant c.in-At.field-0 (sym c.many-z.ensures ∙ c.in-At.is)
+    c.apart.ensures ∙ rest-taken s r.names c.args.at r.i r.n r.invariant c.in_ok-many.field-0 (sym c.many.ensures ∙ c.in_ok-many.was)
 
-pub returns-in-No : goal.returns-in-No
-returns-in-No t c =
+pub returns-in_err-many : goal.returns-in_err-many
+returns-in_err-many t c =
     let s = c.args.s.now in
-    let at = c.args.at in
     let r = c.loop-n in
-    rest-refused s r.names at r.i r.n r.invariant (sym c.many-z.ensures ∙ c.in-No.is)
+    c.from_residual.ensures ∙ rest-refused s r.names c.args.at r.i r.n r.invariant (sym c.many.ensures ∙ c.in_err-many.was)

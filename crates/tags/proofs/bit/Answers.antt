@@ -8,7 +8,7 @@ use borrow.Author.Tests.{eq-eqb, ne_eqb}
 use Rattle.octets.specs.Bytes.{byte_at}
 use Rattle.pieces.specs.Pieces.{char_at}
 use Rattle.pieces.specs.WorkingClasses.{is_run}
-use Rattle.pieces.specs.declared.Ref.TheVariants.{Scalar, Wrong}
+use Rattle.std.specs.Prelude.{Some, None}
 use Rattle.pieces.proofs.Words.{inside_is}
 use Rattle.pieces.proofs.Inside.{run_in, char-run}
 use Rattle.tags.specs.Attributes.{over, bit_at}
@@ -21,14 +21,6 @@ ran c = ap is_run (sym c.byte-b.ensures) ∙ sym c.is_run.ensures ∙ c.if-is_ru
 -- behind the test of the quote
 on : (c : goal.Then-is_run) → let a = c.args in byte_at a.s.now a.i ≡ a.q → ⊥
 on c e = c.if-b-q.false (c.byte-b.ensures ∙ e)
-
--- behind the test of the quote
-on-at-In-Scalar : (c : goal.In-Scalar) → let a = c.args in byte_at a.s.now a.i ≡ a.q → ⊥
-on-at-In-Scalar c e = c.if-b-q.false (c.byte-b.ensures ∙ e)
-
--- behind the test of the quote
-on-at-In-Wrong : (c : goal.In-Wrong) → let a = c.args in byte_at a.s.now a.i ≡ a.q → ⊥
-on-at-In-Wrong c e = c.if-b-q.false (c.byte-b.ensures ∙ e)
 
 pub overflow_add-result : goal.overflow_add-result
 overflow_add-result c =
@@ -55,18 +47,18 @@ returns-then-is_run c =
     let a = c.args in
     rw (ne_eqb (byte_at a.s.now a.i) a.q (on c), sym (char-run a.s.now a.i (ran c)))
 
-pub returns-in-Scalar : goal.returns-in-Scalar
+pub returns-in-Some : goal.returns-in-Some
 unfolding bit_at over
-returns-in-Scalar c =
+returns-in-Some c =
     let s = c.args.s.now in
     let i = c.args.i in
-    let w : char_at s i ≡ Scalar c.in-Scalar.field-0 c.in-Scalar.j = sym c.character-r.ensures ∙ c.in-Scalar.is in
-    rw (ne_eqb (byte_at s i) c.args.q (on-at-In-Scalar c), w)
+    let w : char_at s i ≡ Some (c.in-Some.field-0-0, c.in-Some.j) = sym c.character.ensures ∙ c.in-Some.is in
+    rw (ne_eqb (byte_at s i) c.args.q (λ e. c.if-b-q.false (c.byte-b.ensures ∙ e)), w)
 
-pub returns-in-Wrong : goal.returns-in-Wrong
+pub returns-in-None : goal.returns-in-None
 unfolding bit_at over
-returns-in-Wrong c =
+returns-in-None c =
     let s = c.args.s.now in
     let i = c.args.i in
-    let w : char_at s i ≡ Wrong = sym c.character-r.ensures ∙ c.in-Wrong.is in
-    rw (ne_eqb (byte_at s i) c.args.q (on-at-In-Wrong c), w)
+    let w : char_at s i ≡ None = sym c.character.ensures ∙ c.in-None.is in
+    rw (ne_eqb (byte_at s i) c.args.q (λ e. c.if-b-q.false (c.byte-b.ensures ∙ e)), w)

@@ -12,7 +12,7 @@ use Rattle.octets.specs.Scan.{past}
 use Rattle.octets.specs.Text.{bytes}
 use Rattle.octets.proofs.Sames.{stands-in}
 use Rattle.octets.proofs.Parts.{length_part}
-use Rattle.pieces.specs.declared.End.TheVariants.{At}
+use Rattle.std.specs.Prelude.{Some}
 use Rattle.pieces.proofs.Words.{inside_is}
 use Rattle.tags.specs.Tags.{close_at}
 use Rattle.tags.proofs.close_tag.Goals as goal
@@ -111,7 +111,7 @@ returns-then-byte-eq62 c =
     let e = past is_space s (j + 2 + n) in
     let g : c.spaces-e.result ≡ e = c.spaces-e.ensures in
     let f : c.byte.result ≡ byte_at s e = cc in
-    rw (y, z, eq-eqb (byte_at s e) 62 (omega arith)) (ap (λ (x : ℕ). At (x + 1)) g)
+    rw (y, z, eq-eqb (byte_at s e) 62 (omega arith)) (ap (λ (x : ℕ). Some (x + 1)) g)
 
 pub returns-else-byte-eq62 : goal.returns-else-byte-eq62
 unfolding close_at bytes

@@ -1,34 +1,23 @@
 -- The first bytes of t are `lead` or they are not, and then the rest decides.
-use Prim.Native.Nat.{ℕ, ◌-◌}
-use mathlib.Core.Path.{◌≡◌, sym, ap, ◌∙◌}
-use mathlib.Core.List.{List}
-use native.Mathlib.Omega.{arith}
-use lib.ListN.{length, take}
+use Rattle.std.proofs.Common.{sym, ap, ◌∙◌, ℕ, List, length, arith}
 use Rattle.octets.specs.Bytes.{same}
-use Rattle.tags.proofs.Joins.{joined-short, joined-not, joined-rest, to_end}
+use Rattle.tags.proofs.Joins.{joined-not, joined-rest, joined-fits, to_end}
 use Rattle.tags.proofs.is_joined.Goals as goal
 
-pub returns-then-t-n : goal.returns-then-t-n
-returns-then-t-n c =
-    let t = c.args.t.now in
-    let a = c.args.lead.now in
-    let b = c.args.rest.now in
-    sym (joined-short t a b c.if-t-n.true)
+pub slice_bounds-equal-count : goal.slice_bounds-equal-count
+slice_bounds-equal-count c = joined-fits c.args.t.now c.args.lead.now (sym c.stands_at.ensures ∙ c.if-stands_at.true)
 
-pub returns-then-not-equal : goal.returns-then-not-equal
-returns-then-not-equal c =
-    let t = c.args.t.now in
-    let a = c.args.lead.now in
-    let b = c.args.rest.now in
-    let zero : length a - 0 ≡ length a = omega arith in
-    let q : c.equal.result ≡ same (take (length a) t) a = c.equal.ensures ∙ ap (λ (n : ℕ). same (take n t) a) zero in
-    sym (joined-not t a b (sym q ∙ c.if-not-equal.true))
+pub slice_bounds-equal-start : goal.slice_bounds-equal-start
+slice_bounds-equal-start c =
+    let l = joined-fits c.args.t.now c.args.lead.now (sym c.stands_at.ensures ∙ c.if-stands_at.true) in
+    omega (arith, l)
 
-pub returns : goal.returns
-returns c =
+pub returns-then-stands_at : goal.returns-then-stands_at
+returns-then-stands_at c =
     let t = c.args.t.now in
     let a = c.args.lead.now in
-    let b = c.args.rest.now in
-    let zero : length a - 0 ≡ length a = omega arith in
-    let q : c.equal.result ≡ same (take (length a) t) a = c.equal.ensures ∙ ap (λ (n : ℕ). same (take n t) a) zero in
-    c.equal-2.ensures ∙ ap (λ (l : List ℕ). same l b) (to_end t (length a)) ∙ joined-rest t a b (sym q ∙ c.if-not-equal.false)
+    c.equal.ensures ∙ ap (λ (l : List ℕ). same l c.args.rest.now) (to_end t (length a)) ∙ joined-rest t a c.args.rest.now (sym c.stands_at.ensures ∙ c.if-stands_at.true)
+
+pub returns-else-stands_at : goal.returns-else-stands_at
+returns-else-stands_at c =
+    c.if-stands_at.false ∙ sym (joined-not c.args.t.now c.args.lead.now c.args.rest.now (sym c.stands_at.ensures ∙ c.if-stands_at.false))

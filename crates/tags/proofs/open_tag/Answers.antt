@@ -7,7 +7,7 @@ use lib.Dec.{lit<}
 use borrow.Author.Tests.{eq-eqb, ne_eqb}
 use Rattle.octets.specs.Bytes.{byte_at}
 use Rattle.pieces.specs.Pieces.{name_at}
-use Rattle.pieces.specs.declared.End.TheVariants.{At, No}
+use Rattle.std.specs.Prelude.{Some, None}
 use Rattle.pieces.proofs.Words.{inside_is}
 use Rattle.pieces.proofs.Goes.{name-goes}
 use Rattle.tags.specs.Tags.{tailed, open_at}
@@ -35,25 +35,25 @@ pub tail-requires : goal.tail-requires
 tail-requires c =
     let s = c.args.s.now in
     let i = c.args.at in
-    let n : name_at s (i + 1) ≡ At c.in-At.a = sym c.name-n.ensures ∙ c.in-At.is in
-    (name-goes s (i + 1) c.in-At.a n).in-it
+    let n : name_at s (i + 1) ≡ Some c.in-Some.a = sym c.name.ensures ∙ c.in-Some.is in
+    (name-goes s (i + 1) c.in-Some.a n).in-it
 
-pub returns-in-At : goal.returns-in-At
+pub returns-in-Some : goal.returns-in-Some
 unfolding open_at tailed
-returns-in-At c =
+returns-in-Some c =
     let s = c.args.s.now in
     let i = c.args.at in
     let b = byte_at s i in
     let f : c.byte.result ≡ b = cc in
-    let n : name_at s (i + 1) ≡ At c.in-At.a = sym c.name-n.ensures ∙ c.in-At.is in
+    let n : name_at s (i + 1) ≡ Some c.in-Some.a = sym c.name.ensures ∙ c.in-Some.is in
     rw (eq-eqb b 60 (omega arith), n) c.tail.ensures
 
-pub returns-in-No : goal.returns-in-No
+pub returns-in-None : goal.returns-in-None
 unfolding open_at tailed
-returns-in-No c =
+returns-in-None c =
     let s = c.args.s.now in
     let i = c.args.at in
     let b = byte_at s i in
     let f : c.byte.result ≡ b = cc in
-    let n : name_at s (i + 1) ≡ No = sym c.name-n.ensures ∙ c.in-No.is in
+    let n : name_at s (i + 1) ≡ None = sym c.name.ensures ∙ c.in-None.is in
     rw (eq-eqb b 60 (omega arith), n)

@@ -3,7 +3,7 @@ use mathlib.Core.Path.{◌≡◌, sym, ap, ◌∙◌}
 use native.Mathlib.Omega.{arith}
 use lib.ListN.{get_or}
 use Rattle.octets.specs.Bytes.{same}
-use Rattle.pieces.specs.declared.End.TheVariants.{At}
+use Rattle.std.specs.Prelude.{Some}
 use Rattle.tags.specs.WorkingTree.{nodes, bit_of, cell_of, node_name}
 use Rattle.tags.proofs.Trees.{turn_small, way-starts, way-met, way-ends, way-moves}
 use Rattle.tags.proofs.place.Goals as goal
@@ -63,7 +63,7 @@ returns-then-next-eq0 c =
     let w = c.args.w.now in
     let k = c.loop-k.k in
     let d = c.loop-k.d in
-    ap (λ (b : ℕ). At (4 * k + 2 + b)) c.turn.ensures ∙ way-ends s t w nodes c.requires d k c.loop-k.invariant (sym (met-at-Then-next-eq0 c) ∙ c.if-equal.false) (sym (next c) ∙ c.if-next-eq0.true)
+    ap (λ (b : ℕ). Some (4 * k + 2 + b)) c.turn.ensures ∙ way-ends s t w nodes c.requires d k c.loop-k.invariant (sym (met-at-Then-next-eq0 c) ∙ c.if-equal.false) (sym (next c) ∙ c.if-next-eq0.true)
 
 pub loop-k-smaller : goal.loop-k-smaller
 loop-k-smaller c =

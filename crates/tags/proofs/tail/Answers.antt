@@ -8,7 +8,7 @@ use Rattle.octets.specs.Bytes.{byte_at, one_of, is_space}
 use Rattle.octets.specs.Scan.{past}
 use Rattle.octets.proofs.Scans.{by-stop}
 use Rattle.pieces.specs.Walk.{walk, walk_at, stepped}
-use Rattle.pieces.specs.declared.End.TheVariants.{At}
+use Rattle.std.specs.Prelude.{Some}
 use Rattle.tags.specs.Attributes.{attr_at}
 use Rattle.tags.specs.Tags.{taken, take_at, shut_at, tail_at}
 use Rattle.tags.specs.declared.Open.TheVariants.{Full}
@@ -19,7 +19,7 @@ unfolding tail_at shut_at walk stepped take_at taken attr_at is_space one_of
 at_once s a e =
     let n : is_space (byte_at s a) ≡ false = ap is_space e in
     let p : past is_space s a ≡ a = by-stop (λ j. 1) (λ j. is_space (byte_at s j)) (length s) a n in
-    let w : walk_at (take_at s a) s a ≡ At a = rw (p, e) in
+    let w : walk_at (take_at s a) s a ≡ Some a = rw (p, e) in
     rw (w, e)
 
 pub returns-then-byte-eq62 : goal.returns-then-byte-eq62

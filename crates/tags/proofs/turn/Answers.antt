@@ -4,4 +4,4 @@ use Rattle.tags.proofs.turn.Goals as goal
 
 pub returns : goal.returns
 unfolding bit_of
-returns c = rw c.byte.ensures
+returns c = rw (c.from.ensures, c.byte.ensures)

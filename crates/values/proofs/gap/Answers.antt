@@ -1,42 +1,12 @@
-use mathlib.Core.Path.{◌≡◌, sym, ◌∙◌}
-use mathlib.Core.Bool.{true, false}
-use native.Mathlib.Omega.{arith}
+use Rattle.std.proofs.Common.{◌∙◌, sym, ap, rules, not}
 use Rattle.octets.specs.Bytes.{is_space}
-use Rattle.values.specs.Chars.{next_at}
-use Rattle.values.specs.declared.Next.TheVariants.{Char, Over}
-use Rattle.values.proofs.Folds.{char-forth, over-forth}
-use Rattle.values.proofs.Steps.{gap-space, gap_here, gap-over, gap-last}
+use Rattle.values.proofs.Steps.{gap_by, gap-first}
 use Rattle.values.proofs.gap.Goals as goal
 
--- what stands at the place: a character, a comment
-character : (c : goal.Then-not-is_space) → next_at c.args.s.now c.loop-c.i ≡ Char c.in-Char.c c.in-Char.j
-character c = sym c.look-n.ensures ∙ c.in-Char.is
+pub returns-in_err-f : goal.returns-in_err-f
+returns-in_err-f c = let a = c.args in let e = c.first.ensures (λ x. not (is_space x)) (search rules) in
+    c.from_residual.ensures ∙ ap (gap_by a.s.now) (sym (c.in_err-f.was) ∙ e) ∙ gap-first a.s.now a.at
 
--- what stands at the place: a character, a comment
-character-at-Else-not-is_space : (c : goal.Else-not-is_space) → next_at c.args.s.now c.loop-c.i ≡ Char c.in-Char.c c.in-Char.j
-character-at-Else-not-is_space c = sym c.look-n.ensures ∙ c.in-Char.is
-
-comment : (c : goal.In-Over) → next_at c.args.s.now c.loop-c.i ≡ Over c.in-Over.j
-comment c = sym c.look-n.ensures ∙ c.in-Over.is
-
-pub returns-then-not-is_space : goal.returns-then-not-is_space
-returns-then-not-is_space c =
-    let b : is_space _ ≡ false = sym c.is_space.ensures ∙ c.if-not-is_space.true in
-    sym (gap_here _ _ _ _ (character c) b) ∙ c.loop-c.invariant
-
-pub loop-c-smaller-in-Char : goal.loop-c-smaller-in-Char
-loop-c-smaller-in-Char c = let g = char-forth _ _ _ _ (character-at-Else-not-is_space c) in omega arith
-
-pub loop-c-preserved-in-Char : goal.loop-c-preserved-in-Char
-loop-c-preserved-in-Char c =
-    let b : is_space _ ≡ true = sym c.is_space.ensures ∙ c.if-not-is_space.false in
-    sym (gap-space _ _ _ _ (character-at-Else-not-is_space c) b) ∙ c.loop-c.invariant
-
-pub loop-c-smaller : goal.loop-c-smaller
-loop-c-smaller c = let g = over-forth _ _ _ (comment c) in omega arith
-
-pub loop-c-preserved : goal.loop-c-preserved
-loop-c-preserved c = sym (gap-over _ _ _ (comment c)) ∙ c.loop-c.invariant
-
-pub returns-in-Last : goal.returns-in-Last
-returns-in-Last c = sym (gap-last _ _ (sym c.look-n.ensures ∙ c.in-Last.is)) ∙ c.loop-c.invariant
+pub returns : goal.returns
+returns c = let a = c.args in let e = c.first.ensures (λ x. not (is_space x)) (search rules) in
+    ap (gap_by a.s.now) (sym (c.in_ok-f.was) ∙ e) ∙ gap-first a.s.now a.at

@@ -1,17 +1,11 @@
 -- Below 128 the low eight bits are the character.
-use Prim.Native.Nat.{◌%◌}
-use mathlib.Core.Path.{◌≡◌}
-use native.Mathlib.Omega.{arith}
 use borrow.Author.Tests.{lt-ltb, le-ltb}
 use Rattle.values.specs.WorkingSteps.{low}
 use Rattle.values.proofs.low_of.Goals as goal
 
 pub returns-then-c-lt128 : goal.returns-then-c-lt128
 unfolding low
-returns-then-c-lt128 c =
-    let x = c.args.c in
-    let e : x % 256 ≡ x = omega (arith, c.if-c-lt128.true) in
-    rw (lt-ltb x 128 c.if-c-lt128.true) e
+returns-then-c-lt128 c = rw (lt-ltb c.args.c 128 c.if-c-lt128.true)
 
 pub returns-else-c-lt128 : goal.returns-else-c-lt128
 unfolding low

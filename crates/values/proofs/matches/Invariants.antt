@@ -1,13 +1,9 @@
--- While the characters behind agree, the rest of the value and the rest of w decide; a mark is a character as it stands.
-use lib.ListN.{length}
-use Prim.Native.Nat.{◌-◌}
+-- While the characters behind agree, the rest of the value and the rest of w decide.
+use Prim.Native.Nat.{ℕ}
 use Rattle.values.specs.Value.{value_at}
-use Rattle.values.specs.WorkingSteps.{form}
+use Rattle.values.specs.WorkingSteps.{Computes}
 use Rattle.values.proofs.Loops.{Matching}
 use Rattle.values.proofs.matches.Given as goal
 
-abbrev pub invariant-loop-at : goal.invariant-loop-at
-invariant-loop-at l = Matching (form l.any) l.s (value_at l.s l.at) l.w l.i l.k
-
-abbrev pub decreases-loop-at : goal.decreases-loop-at
-decreases-loop-at l = length l.s - l.i
+abbrev pub invariant-loop-b : goal.invariant-loop-b
+invariant-loop-b g l = (f : ℕ → ℕ) → Computes (goal.F-post g l.form) f → Matching f l.s (value_at l.s l.at) l.w l.i l.b-index

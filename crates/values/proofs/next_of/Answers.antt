@@ -2,10 +2,10 @@
 use Rattle.values.specs.Chars.{met}
 use Rattle.values.proofs.next_of.Goals as goal
 
-pub returns-in-Scalar : goal.returns-in-Scalar
+pub returns-in-Some : goal.returns-in-Some
 unfolding met
-returns-in-Scalar c = rw c.in-Scalar.is
+returns-in-Some c = rw c.in-Some.is
 
-pub returns-in-Wrong : goal.returns-in-Wrong
+pub returns-in-None : goal.returns-in-None
 unfolding met
-returns-in-Wrong c = rw c.in-Wrong.is
+returns-in-None c = rw c.in-None.is

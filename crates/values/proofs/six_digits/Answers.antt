@@ -9,14 +9,14 @@ use lib.ListN.{length, take, length-take}
 use lib.Seq.{sets}
 use Rattle.octets.specs.Bytes.{every, part, is_digit}
 use Rattle.octets.specs.Digits.{all_digits, value, num_of}
-use Rattle.octets.specs.declared.Num.TheVariants.{Value, Bad}
+use Rattle.std.specs.Prelude.{Some, None}
 use Rattle.octets.proofs.Tests.{every-none, every-step, every_first, every_rest, between_is, between-low, between-high}
 use Rattle.values.specs.Value.{value_at}
 use Rattle.values.specs.WorkingSteps.{low, six_digits}
 use Rattle.values.proofs.Copies.{room, kept, whole, is_kept, low-pick}
 use Rattle.values.proofs.six_digits.Goals as goal
 
-six-not : (v : List ℕ) → (length (take 7 v) ≡ 6 → ⊥) → Bad ≡ six_digits v
+six-not : (v : List ℕ) → (length (take 7 v) ≡ 6 → ⊥) → None ≡ six_digits v
 unfolding six_digits
 six-not v h = let n : length v ≡ 6 → ⊥ = λ e. h (simp length-take (omega arith)) in rw (ne_eqb (length v) 6 n)
 
@@ -30,7 +30,7 @@ digits-kept (c ∷ v) h =
 
 num-low : (v : List ℕ) → num_of (map low v) ≡ num_of v
 unfolding num_of
-num-low v = low-pick all_digits digits-kept v (λ w. Value (value w)) Bad
+num-low v = low-pick all_digits digits-kept v (λ w. Some (value w)) None
 
 six-are : (v d x : List ℕ) → length d ≡ 7 → x ≡ sets d 0 (map low (take 7 v)) → length (take 7 v) ≡ 6 → num_of (part x 0 6) ≡ six_digits v
 unfolding six_digits
@@ -39,11 +39,11 @@ six-are v d x l e h =
     let n : length v ≡ 6 = ap length (sym w) ∙ h in
     rw (eq-eqb (length v) 6 n, kept 7 v 6 d x h (omega arith) e, w) (num-low v)
 
-pub copy-n-requires : goal.copy-n-requires
-copy-n-requires c = room 7 (value_at c.args.s.now c.args.at) 0 7 (omega arith)
+pub copy-requires : goal.copy-requires
+copy-requires c = room 7 (value_at c.args.s.now c.args.at) 0 7 (omega arith)
 
-pub returns-then-n-ne6 : goal.returns-then-n-ne6
-returns-then-n-ne6 c = six-not _ (λ e. c.if-n-ne6.true (c.copy-n.ensures.value ∙ e))
+pub returns-then-copy-ne6 : goal.returns-then-copy-ne6
+returns-then-copy-ne6 c = six-not _ (λ e. c.if-copy-ne6.true (c.copy.ensures.value ∙ e))
 
 pub returns : goal.returns
-returns c = c.number.ensures ∙ six-are _ _ _ refl c.copy-n.ensures.out_after (sym c.copy-n.ensures.value ∙ c.if-n-ne6.false)
+returns c = c.number.ensures ∙ six-are _ _ _ refl c.copy.ensures.out_after (sym c.copy.ensures.value ∙ c.if-copy-ne6.false)

@@ -5,8 +5,8 @@ use Rattle.calm.proofs.Calms.{Near}
 use Rattle.values.proofs.Loops.{Spelling}
 use Rattle.values.proofs.spell.Given as goal
 
-abbrev pub invariant-loop-k : goal.invariant-loop-k
-invariant-loop-k l = Spelling l.s l.at l.g l.initial.out l.to l.out l.i l.k l.e × Near l.s l.at l.i
+abbrev pub invariant-loop-count : goal.invariant-loop-count
+invariant-loop-count l = Spelling l.s l.at l.g l.initial.out l.to l.out l.next l.count l.end × Near l.s l.at l.next
 
-abbrev pub decreases-loop-k : goal.decreases-loop-k
-decreases-loop-k l = length l.s - l.i
+abbrev pub decreases-loop-count : goal.decreases-loop-count
+decreases-loop-count l = length l.s - l.next

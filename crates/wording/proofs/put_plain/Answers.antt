@@ -1,44 +1,40 @@
 -- Where the text is full or the value empty nothing is put; else a space and what is left of 1,800.
-use Prim.Native.Nat.{ℕ, ◌-◌, ◌<◌}
-use mathlib.Core.List.{List, ◌∷◌}
-use mathlib.Core.Path.{sym, ◌∙◌}
+use Prim.Native.Nat.{◌-◌}
+use mathlib.Core.List.{[], ◌∷◌}
+use mathlib.Core.Path.{◌≡◌, sym, ◌∙◌}
 use native.Mathlib.Omega.{arith}
 use lib.ListN.{take, length-take}
 use Rattle.values.specs.Value.{value_at}
+use Rattle.wording.specs.Text.{most, after_space}
 use Rattle.wording.proofs.Cuts.{spaced-full, spaced-none, spaced-some}
 use Rattle.wording.proofs.Pens.{pen-none, pen-first, pen-all, room_of_lem}
+use Rattle.wording.proofs.put_plain.Goals.{then-pen-eq-MOST-via-then-pen-eq-MOST, then-pen-eq-MOST-via-else-pen-eq-MOST+then-is_empty}
 use Rattle.wording.proofs.put_plain.Goals as goal
 
-abbrev value : goal.Then-pen-eq1800 → List ℕ
-value c = value_at c.args.s.now c.args.p
+none : (c : goal.Joined-then-pen-eq-MOST) → let a = c.args in take (most - a.pen.count) (after_space (value_at a.s.now a.p)) ≡ []
+none c =
+    let a = c.args in
+    let v = value_at a.s.now a.p in
+    elim c.then-pen-eq-MOST.branch [
+      | then-pen-eq-MOST-via-then-pen-eq-MOST w ↦ spaced-full v a.pen.count w.if-pen-eq-MOST.true
+      | then-pen-eq-MOST-via-else-pen-eq-MOST+then-is_empty w ↦ spaced-none v (sym w.is_empty.ensures ∙ w.if-is_empty.true) (1800 - a.pen.count)
+    ]
 
-abbrev value-at-Then-is_empty : goal.Then-is_empty → List ℕ
-value-at-Then-is_empty c = value_at c.args.s.now c.args.p
+pub returns-then-pen-eq-MOST : goal.returns-then-pen-eq-MOST
+returns-then-pen-eq-MOST c =
+    let both = pen-all (pen-none c.args.out.now c.args.pen) _ (none c) in
+    record { value = both.0; out_after = both.1 }
 
-room : (c : goal.After-put_spaced-arg-1) → c.args.pen.count < 1800
-room c = omega (arith, c.requires.short, c.if-pen-eq1800.false)
-
-abbrev value-at-After-put_spaced-arg-1 : goal.After-put_spaced-arg-1 → List ℕ
-value-at-After-put_spaced-arg-1 c = value_at c.args.s.now c.args.p
-
-abbrev value-at-After-result-1 : goal.After-result-1 → List ℕ
-value-at-After-result-1 c = value_at c.args.s.now c.args.p
-
-room-at-After-result-1 : (c : goal.After-result-1) → c.args.pen.count < 1800
-room-at-After-result-1 c = omega (arith, c.requires.short, c.if-pen-eq1800.false)
-
-pub returns-then-pen-eq1800 : goal.returns-then-pen-eq1800
-returns-then-pen-eq1800 c = let both = pen-all (pen-none c.args.out.now c.args.pen) _ (spaced-full (value c) c.args.pen.count c.if-pen-eq1800.true) in record { value = both.0; out_after = both.1 }
-
-pub returns-then-is_empty : goal.returns-then-is_empty
-returns-then-is_empty c = let both = pen-all (pen-none c.args.out.now c.args.pen) _ (spaced-none (value-at-Then-is_empty c) (sym c.is_empty.ensures ∙ c.if-is_empty.true) (1800 - c.args.pen.count)) in record { value = both.0; out_after = both.1 }
-
-pub put_spaced-r-requires : goal.put_spaced-r-requires
-put_spaced-r-requires c =
-    room_of_lem c.requires _ (omega (arith, room c, length-take (1799 - c.args.pen.count) (value-at-After-put_spaced-arg-1 c)))
+pub put_spaced-requires : goal.put_spaced-requires
+put_spaced-requires c =
+    let a = c.args in
+    room_of_lem c.requires _ (omega (arith, c.requires.short, c.if-pen-eq-MOST.false, length-take (1799 - a.pen.count) (value_at a.s.now a.p)))
 
 pub returns : goal.returns
 returns c =
-    let v = value-at-After-result-1 c in
-    let n = c.args.pen.count in let both = pen-all (pen-first c.args.out.now c.args.pen (32 ∷ take (1799 - n) v) (c.put_spaced-r.ensures.pen_value, c.put_spaced-r.ensures.out_after)) _
-    (spaced-some v (sym c.is_empty.ensures ∙ c.if-is_empty.false) n (room-at-After-result-1 c)) in record { value = both.0; out_after = both.1 }
+    let a = c.args in
+    let n = a.pen.count in
+    let v = value_at a.s.now a.p in
+    let both = pen-all (pen-first a.out.now a.pen (32 ∷ take (1799 - n) v) (c.put_spaced.ensures.pen_value, c.put_spaced.ensures.out_after)) _
+    (spaced-some v (sym c.is_empty.ensures ∙ c.if-is_empty.false) n (omega (arith, c.requires.short, c.if-pen-eq-MOST.false))) in
+    record { value = both.0; out_after = both.1 }

@@ -4,4 +4,4 @@ use Rattle.records.proofs.Making.{withdrawal-made}
 use Rattle.records.proofs.Record.withdrawal.Goals as goal
 
 pub returns : goal.returns
-returns c = c.keyed-b.ensures ∙ withdrawal-made _
+returns c = c.keyed-bytes.ensures ∙ withdrawal-made _

@@ -1,4 +1,0 @@
-pub mod Parts
-pub mod Puts
-pub mod Clears
-pub mod States

@@ -1,4 +1,0 @@
-use Rattle.lent.proofs.audio_at.Goals as goal
-
-pub returns : goal.returns
-returns c = rw c.narrow_of.ensures

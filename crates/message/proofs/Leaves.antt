@@ -1,0 +1,92 @@
+-- What is read at the place of a leaf, where it is the only one of its name.
+use Prim.Native.Nat.{ℕ}
+use mathlib.Core.Path.{◌≡◌, refl, ap, ◌∙◌}
+use mathlib.Core.Bool.{Bool, true, false, not, ◌&&◌}
+use lib.Dec.{eqb}
+use borrow.Author.Tests.{eq-eqb}
+use Rattle.std.specs.Option.{is_some, unwrap_or}
+use Rattle.clock.specs.Time.{is_time, instant_in}
+use Rattle.fields.specs.WorkingFields.{status_place, scope_place}
+use Rattle.fields.specs.declared.Status.{Status}
+use Rattle.fields.specs.declared.Scope.{Scope}
+use Rattle.std.specs.Prelude.{Option, Some, None}
+use Rattle.octets.specs.Bytes.{pick}
+use Rattle.reads.specs.WorkingLeaves.{only_of}
+use Rattle.reads.specs.declared.Leaf.{Leaf}
+use Rattle.message.specs.WorkingJudged.{place_in, is_ack_or_error, number_with}
+use Rattle.fields.specs.declared.MsgType.{MsgType}
+
+module _ {A : Type 0} (f : ℕ → A) (none : A) where
+  abbrev pub read_there : Option ℕ → A
+  read_there None = none
+  read_there (Some i) = f i
+
+  pub read_only : (l : Leaf) {o : Option ℕ} → o ≡ place_in l → read_there o ≡ pick (only_of l) (f l.at) none
+  unfolding place_in
+  read_only l e = ap read_there e ∙ go (only_of l)
+    where
+      go : (b : Bool) → read_there (pick b (Some l.at) None) ≡ pick b (f l.at) none
+      go true = refl
+      go false = refl
+
+pub both-hold : (b c : Bool) → pick b c false ≡ b && c
+both-hold true c = refl
+both-hold false c = refl
+
+-- ---- what is absent
+
+pub no-time : (x : Option ℕ) (r : Bool) → is_some x ≡ not r → r ≡ not (is_time x)
+no-time None true e = refl
+no-time None false e = cc
+no-time (Some n) true e = cc
+no-time (Some n) false e = refl
+
+pub no-status : (x : Option Status) (r : Bool) → is_some x ≡ not r → r ≡ eqb (status_place x) 0
+no-status None true e = refl
+no-status None false e = cc
+no-status (Some y) true e = cc
+no-status (Some Status.Actual) false e = refl
+no-status (Some Status.Exercise) false e = refl
+no-status (Some Status.System) false e = refl
+no-status (Some Status.Test) false e = refl
+no-status (Some Status.Draft) false e = refl
+
+pub no_scope : (x : Option Scope) (r : Bool) → is_some x ≡ not r → r ≡ eqb (scope_place x) 0
+no_scope None true e = refl
+no_scope None false e = cc
+no_scope (Some y) true e = cc
+no_scope (Some Scope.Public) false e = refl
+no_scope (Some Scope.Restricted) false e = refl
+no_scope (Some Scope.Private) false e = refl
+
+pub zero-absent : (x : Option ℕ) → unwrap_or x 0 ≡ instant_in x
+zero-absent None = refl
+zero-absent (Some n) = refl
+
+-- ---- the number
+
+pub not_actual : (x : Option Status) → (x ≡ Some Status.Actual → ⊥) → eqb (status_place x) 1 ≡ false
+not_actual None h = refl
+not_actual (Some Status.Actual) h = absurd (h refl)
+not_actual (Some Status.Exercise) h = refl
+not_actual (Some Status.System) h = refl
+not_actual (Some Status.Test) h = refl
+not_actual (Some Status.Draft) h = refl
+
+pub not_public : (x : Option Scope) → (x ≡ Some Scope.Public → ⊥) → eqb (scope_place x) 1 ≡ false
+not_public None h = refl
+not_public (Some Scope.Public) h = absurd (h refl)
+not_public (Some Scope.Restricted) h = refl
+not_public (Some Scope.Private) h = refl
+
+pub other_type : (m : MsgType) → (m ≡ MsgType.Ack → ⊥) → (m ≡ MsgType.Error → ⊥) → is_ack_or_error m ≡ false
+other_type MsgType.Unknown a e = refl
+other_type MsgType.Alert a e = refl
+other_type MsgType.Update a e = refl
+other_type MsgType.Cancel a e = refl
+other_type MsgType.Ack a e = absurd (a refl)
+other_type MsgType.Error a e = absurd (e refl)
+
+pub number-nine : (field status scope : ℕ) (m : MsgType) → field ≡ 0 → status ≡ 1 → scope ≡ 1 → is_ack_or_error m ≡ true → 9 ≡ number_with field status scope m
+unfolding number_with
+number-nine field status scope m e f g h = rw (eq-eqb field 0 e, eq-eqb status 1 f, eq-eqb scope 1 g, h)

@@ -1,9 +1,0 @@
--- The first one gives the place, any other only the count.
-use borrow.Author.Tests.{eq-eqb, ne_eqb}
-use Rattle.reads.proofs.find.Goals as goal
-
-pub returns-then-l-eq0 : goal.returns-then-l-eq0
-returns-then-l-eq0 c = rw (eq-eqb _ _ c.if-l-eq0.true)
-
-pub returns : goal.returns
-returns c = rw (ne_eqb _ _ c.if-l-eq0.false)
