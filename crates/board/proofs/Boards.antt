@@ -1,21 +1,21 @@
 -- The rules of a board, and a board as its filled records.
 --     kept-rules, encode-ok           what the rules say, and back
 --     board-bytes, board-encode       a board is its filled records and zeros
---     filled-counted, ascending-on ..  the rules judged record by record
+--     filled-counted, ascending-told   the rules judged record by record
 use Prim.Native.Nat.{ℕ, zero, suc, ◌+◌, ◌*◌, ◌-◌, ◌/◌, ◌%◌, ◌≤◌, ◌<◌}
 use mathlib.Core.Bool.{Bool, true, false, cond, not, ◌&&◌, true≢false}
 use mathlib.Core.Path.{◌≡◌, refl, sym, ap, ap₂, ◌∙◌}
 use mathlib.Core.Logic.{inl, inr}
 use mathlib.Core.List.{List, [], ◌∷◌, ◌++◌, append-nil}
-use native.Mathlib.Nat.{le_refl, not-suc-le-zero, le_of_suc-le-suc}
-use native.Mathlib.Numerals.{one-add}
+use native.Mathlib.Nat.{le_refl}
+use native.Mathlib.Numerals.{add-one, one-add}
 use native.Mathlib.Omega.{arith}
 use lib.Dec.{eqb}
 use lib.ListN.{length, get_or, take, drop, replicate, length-append, length-replicate, length-drop, take-append-drop}
 use lib.Seq.{drop-drop, drop_at, take_all}
 use borrow.Author.Tests.{eq-eqb, ne_eqb, eqb-true}
-use Rattle.std.specs.List.{prefix_len}
-use Rattle.std.specs.Ordering.{is_ge}
+use Rattle.std.specs.List.{prefix_len, IsAllAdjacentAnswer}
+use Rattle.std.specs.Ordering.{is_lt}
 use Rattle.std.specs.Simd.{first_chunks}
 use Rattle.std.specs.declared.cmp.Ordering.{Ordering}
 use Rattle.std.specs.declared.cmp.Ordering.TheVariants.{Less, Equal, Greater}
@@ -28,9 +28,9 @@ use Rattle.records.proofs.Records.{record-long, record-kind}
 use Rattle.records.proofs.ZeroFill.{zeros-made, zeros-are}
 use Rattle.ledger.specs.Sorted.{In, Sorted, ascending}
 use Rattle.ledger.proofs.Sorts.{ascending-sorted, sorted-ascending, every_in, in-every}
-use Rattle.slots.specs.WorkingSlots.{rec, flat}
+use Rattle.slots.specs.WorkingSlots.{flat}
 use Rattle.slots.specs.Slots.{recs}
-use Rattle.slots.proofs.Records.{recs-length, recs-chunks, recs-drop, recs-more, recs-flat, flat-length, flat-all}
+use Rattle.slots.proofs.Records.{recs-length, recs-chunks, recs-more, recs-flat, flat-length, flat-all}
 use Rattle.board.specs.WorkingRules.{Records, board_tests, board_ok, encode}
 use Rattle.board.specs.Rules.{filled_of, board_of}
 
@@ -76,39 +76,34 @@ pub filled-counted : (s : List ℕ) → length (take (prefix_len (λ r. not (eqb
 unfolding board_of
 filled-counted s = ap length (filled-taken (first_chunks 384 (length s / 384) s) ∙ ap filled_of (recs-chunks (length s / 384) s))
 
-ascending-short : (l : List (List ℕ)) → length l ≤ 1 → ascending l ≡ true
-ascending-short [] h = refl
-ascending-short (x ∷ []) h = refl
-ascending-short (x ∷ (y ∷ l)) h = absurd (not-suc-le-zero (le_of_suc-le-suc h))
+-- each is before the next, as a test of neighbours tells
+pub ascending-told : (l : List (List ℕ)) (r : Bool) → IsAllAdjacentAnswer (λ x y b. b ≡ is_lt (cmp x y)) l r → r ≡ ascending l
+ascending-told [] true h = refl
+ascending-told [] false h = absurd (let k : h.0 + 1 < 0 = h.1 in omega arith)
+ascending-told (x ∷ []) true h = refl
+ascending-told (x ∷ []) false h = absurd (let k : h.0 + 1 < 1 = h.1 in omega arith)
+ascending-told (x ∷ (y ∷ l)) true h = all (cmp x y) (h 0 [] (omega arith)) (ascending-told (y ∷ l) true (λ k d b. rw (add-one k) (rw (add-one (suc k)) at (h (suc k) d (omega arith)))))
+  where
+    all : (o : Ordering) → true ≡ is_lt o → true ≡ ascending (y ∷ l) → true ≡ choose o (ascending (y ∷ l)) false false
+    all Less e q = q
+    all Equal e q = e
+    all Greater e q = e
+ascending-told (x ∷ (y ∷ l)) false h = one h.0 h.1 h.2 (ascending-told (y ∷ l) false)
+  where
+    first : (o : Ordering) → false ≡ is_lt o → false ≡ choose o (ascending (y ∷ l)) false false
+    first Less e = absurd (true≢false (sym e))
+    first Equal e = refl
+    first Greater e = refl
 
--- the first i records of n are ascending, and record i is compared with the one before it
-module _ (s : List ℕ) (n i : ℕ) (so : ascending (recs n s) ≡ ascending (drop (i - 1) (recs n s))) (some : 1 ≤ i) where
-  module _ (below : i < n) (o : Ordering) (e : o ≡ cmp (rec (i - 1) s) (rec i s)) where
-    ascending-at : ascending (recs n s) ≡ choose o (ascending (drop i (recs n s))) false false
-    ascending-at =
-        let q : i - 1 + 1 ≡ i = omega arith in
-        so
-        ∙ ap ascending (recs-drop n (i - 1) s (omega arith) ∙ ap (λ (k : ℕ). rec (i - 1) s ∷ drop k (recs n s)) q ∙ ap (λ (l : List (List ℕ)). rec (i - 1) s ∷ l) (recs-drop n i s below))
-        ∙ ap₂ (λ (p : Ordering) (l : List (List ℕ)). choose p (ascending l) false false) (sym e) (sym (recs-drop n i s below))
+    later : (o : Ordering) → false ≡ ascending (y ∷ l) → false ≡ choose o (ascending (y ∷ l)) false false
+    later Less q = q
+    later Equal q = refl
+    later Greater q = refl
 
-    pub ascending-stop : is_ge o ≡ true → false ≡ ascending (recs n s)
-    ascending-stop g = go o g ascending-at
-      where
-        go : (o : Ordering) → is_ge o ≡ true → ascending (recs n s) ≡ choose o (ascending (drop i (recs n s))) false false → false ≡ ascending (recs n s)
-        go Less g q = absurd (true≢false (sym g))
-        go Equal g q = sym q
-        go Greater g q = sym q
-
-    pub ascending-on : is_ge o ≡ false → ascending (recs n s) ≡ ascending (drop (i + 1 - 1) (recs n s))
-    ascending-on g = go o g ascending-at ∙ ap (λ (k : ℕ). ascending (drop k (recs n s))) (let q : i ≡ i + 1 - 1 = omega arith in q)
-      where
-        go : (o : Ordering) → is_ge o ≡ false → ascending (recs n s) ≡ choose o (ascending (drop i (recs n s))) false false → ascending (recs n s) ≡ ascending (drop i (recs n s))
-        go Less g q = q
-        go Equal g q = absurd (true≢false g)
-        go Greater g q = absurd (true≢false g)
-
-  pub ascending-end : n ≤ i → true ≡ ascending (recs n s)
-  ascending-end h = sym (so ∙ ascending-short (drop (i - 1) (recs n s)) (simp (length-drop, recs-length) (omega arith)))
+    one : (k : ℕ) → k + 1 < length (x ∷ (y ∷ l)) → ((d : List ℕ) → false ≡ is_lt (cmp (get_or (x ∷ (y ∷ l)) k d) (get_or (x ∷ (y ∷ l)) (k + 1) d)))
+        → (IsAllAdjacentAnswer (λ x y b. b ≡ is_lt (cmp x y)) (y ∷ l) false → false ≡ ascending (y ∷ l)) → false ≡ ascending (x ∷ (y ∷ l))
+    one zero b f q = first (cmp x y) (f [])
+    one (suc k) b f q = later (cmp x y) (q (k, omega arith, λ d. rw (add-one k) (rw (add-one (suc k)) at (f d))))
 
 -- what is left of a slice from index k on
 pub tail_all : (k : ℕ) (s : List ℕ) → take (length s - k) (drop k s) ≡ drop k s

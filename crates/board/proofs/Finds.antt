@@ -1,6 +1,6 @@
 -- The due headers as a scan of the bytes finds them.
 --     key-part                   the key of a record as a slice of the board
---     mark-at, mark-next         the marks of the live records
+--     mark-at, each-mark         the marks of the live records
 --     go_same .. go-by           the record that carries the first header, one record further
 --     start-due                  the first header after none is the first due header
 --     count-on                   the count of a header
@@ -16,8 +16,11 @@ use native.Mathlib.Numerals.{add-one}
 use native.Mathlib.Omega.{arith}
 use lib.Dec.{eqb}
 use lib.ListN.{length, get_or, take, drop, set, drop_of_length-le, length-drop, length-map, length-set}
-use lib.Seq.{sets, sets-eq, drop-drop, take_at, get_or-set_same, get_or-set_other}
+use lib.Seq.{sets, sets-eq, drop-drop, take_at}
 use borrow.Author.Tests.{eq-eqb, ne_eqb}
+use denote.Param.Members.{Mut}
+use Rattle.std.specs.Array.{IsFromFnResultFrom}
+use Rattle.std.specs.Fn.{Called}
 use Rattle.std.specs.declared.cmp.Ordering.{Ordering}
 use Rattle.std.specs.declared.cmp.Ordering.TheVariants.{Less, Equal, Greater}
 use Rattle.octets.specs.Bytes.{pick, same}
@@ -65,14 +68,16 @@ live-by b r t k w a = ap not a ∙ sym (last-decides (unwithdrawn b r ∷ []) (n
 pub mark-at : (p : List ℕ → Bool) (s : List ℕ) (n i : ℕ) (marks : List Bool) → Marks p (recs n s) marks → i < n → get_or marks i false ≡ p (rec i s)
 mark-at p s n i marks m h = m i (rw recs-length h) ∙ ap p (recs-get n i s h)
 
--- one mark more
-pub mark-next : (p : List ℕ → Bool) (s : List ℕ) (i : ℕ) (marks : List Bool) (t : Bool) → i < length marks → t ≡ p (rec i s)
-    → ((j : ℕ) → j < i → get_or marks j false ≡ p (rec j s)) → (j : ℕ) → j < i + 1 → get_or (set marks i t) j false ≡ p (rec j s)
-mark-next p s i marks t l e so j h = go (dec_lt j i)
+-- each mark is what its call answered, where a call leaves the closure as it was
+pub each-mark : {F : Type 0} (g : Mut F (ℕ × Unit {0}) Bool) (P : ℕ → Bool → Type 0) (f : F) (marks : List Bool) → ((i : ℕ) (t : Bool) (q : F) → Called g f (i, tt) t q → (q ≡ f) × P i t)
+    → (n i : ℕ) → IsFromFnResultFrom g f marks i n → (k : ℕ) → i ≤ k → k < i + n → P k (get_or marks k false)
+each-mark g P f marks step zero i h k a b = absurd (omega arith)
+each-mark {F} g P f marks step (suc n) i h k a b =
+    go (dec_lt i k) (each-mark g P f marks step n (i + 1) (subst (λ (x : F). IsFromFnResultFrom g x marks (i + 1) n) (step i h.1 h.0 h.3).0 h.4) k)
   where
-    go : Dec (j < i) → get_or (set marks i t) j false ≡ p (rec j s)
-    go (yes k) = get_or-set_other marks i j t false (λ q. let z : i < i = subst (λ (x : ℕ). x < i) q k in omega arith) ∙ so j k
-    go (no k) = let q : j ≡ i = omega arith in rw q (get_or-set_same marks i t false l ∙ e)
+    go : Dec (i < k) → (i + 1 ≤ k → k < i + 1 + n → P k (get_or marks k false)) → P k (get_or marks k false)
+    go (yes l) q = q (omega arith) (omega arith)
+    go (no l) q = let e : i ≡ k = omega arith in subst (λ (j : ℕ). P j (get_or marks j false)) e (subst (P i) (sym (h.2.1 false)) (step i h.1 h.0 h.3).1)
 
 pub marks-are : (p : List ℕ → Bool) (s : List ℕ) (n : ℕ) (marks : List Bool) → ((j : ℕ) → j < n → get_or marks j false ≡ p (rec j s)) → Marks p (recs n s) marks
 marks-are p s n marks so i h = let k : i < n = rw (← recs-length n s) h in so i k ∙ ap p (sym (recs-get n i s k))

@@ -69,7 +69,10 @@ module _ (s : List ℕ) (rs : List (List ℕ)) (ok : board_ok s ≡ true) (w : R
     where
       go : Offer s rs → board_ok (offer_of s rs).bytes ≡ true
       go (full h e) = ap (λ (x : Offering). board_ok x.bytes) e ∙ ok
-      go (taken h e) = ap (λ (x : Offering). board_ok x.bytes) e ∙ encode-ok (length s) (insert_all rs (board_of s)) (kept-rules s ok).low (kept-rules s ok).high (kept-rules s ok).whole (insert_all-sorted rs (board_of s) (kept-rules s ok).order) with-them (fits s ok (insert_all rs (board_of s)) with-them h)
+      go (taken h e) =
+          let k = kept-rules s ok in
+          let b = insert_all rs (board_of s) in
+          ap (λ (x : Offering). board_ok x.bytes) e ∙ encode-ok (length s) b k.low k.high k.whole (insert_all-sorted rs (board_of s) k.order) with-them (fits s ok b with-them h)
 
   pub offer-long : length (offer_of s rs).bytes ≡ length s
   offer-long = go (offer-is s rs ok)
@@ -133,7 +136,11 @@ module _ (s : List ℕ) (ok : board_ok s ≡ true) where
       go : Hand s → board_ok (hand_of s).bytes ≡ true
       go (nothing f e) = ap (λ (x : Handing). board_ok x.bytes) e ∙ ok
       go (full h hs f l e) = ap (λ (x : Handing). board_ok x.bytes) e ∙ ok
-      go (given h hs f l e) = ap (λ (x : Handing). board_ok x.bytes) e ∙ encode-ok (length s) (insert (aired h) (board_of s)) (kept-rules s ok).low (kept-rules s ok).high (kept-rules s ok).whole (insert-sorted (aired h) (board_of s) (kept-rules s ok).order) (with_it h hs f) (fits s ok (insert (aired h) (board_of s)) (with_it h hs f) l)
+      go (given h hs f l e) =
+          let k = kept-rules s ok in
+          let b = insert (aired h) (board_of s) in
+          let w = with_it h hs f in
+          ap (λ (x : Handing). board_ok x.bytes) e ∙ encode-ok (length s) b k.low k.high k.whole (insert-sorted (aired h) (board_of s) k.order) w (fits s ok b w l)
 
   pub hand-long : length (hand_of s).bytes ≡ length s
   hand-long = go (hand-is s ok)

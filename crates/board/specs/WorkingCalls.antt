@@ -1,5 +1,5 @@
 -- What offers, hand-outs and lists answer and do, as definitions by which the code is specified.
-use Rattle.std.specs.Prelude.{ℕ, ◌*◌, ◌-◌, List, [], ◌∷◌, leb, length, replicate}
+use Rattle.std.specs.Prelude.{ℕ, ◌*◌, ◌-◌, Result, Ok, Err, List, [], ◌∷◌, leb, length, replicate}
 use Rattle.octets.specs.Bytes.{pick}
 use Rattle.records.specs.Record.{aired}
 use Rattle.ledger.specs.Sorted.{insert, insert_all}
@@ -8,6 +8,7 @@ use Rattle.ledger.specs.WorkingBoard.{live, due, index_of, rows_of}
 use Rattle.board.specs.Rules.{board_of}
 use Rattle.board.specs.WorkingRules.{board_ok, encode}
 use Rattle.board.specs.declared.Added.{Added}
+use Rattle.board.specs.declared.Handed.{Handed}
 use Rattle.board.specs.Calls.{Handing, Listing}
 
 -- ---- an offer of the records rs: 1 the board, 15 too few empty records
@@ -15,6 +16,11 @@ use Rattle.board.specs.Calls.{Handing, Listing}
 pub record Offering : Type 0 where
   pub answer : Added
   pub bytes : List ℕ
+
+-- how many were added, or the number of a refusal, as the answer
+abbrev pub added_of : Result ℕ ℕ → Added
+added_of (Ok added) = record { number = 0; added = added }
+added_of (Err number) = record { number = number; added = 0 }
 
 -- a refusal returns its number, zeros elsewhere, and changes nothing
 abbrev pub offer_refused : ℕ → List ℕ → Offering
@@ -31,6 +37,11 @@ unfoldable pub offer_of : List ℕ → List (List ℕ) → Offering
 offer_of s rs = pick (board_ok s) (offer_to s (board_of s) (insert_all rs (board_of s))) (offer_refused 1 s)
 
 -- ---- a hand-out: 1 the board, 16 nothing due, 15 no empty record
+
+-- the index of the smallest notice that makes the header due, or the number of a refusal, as the answer
+abbrev pub handed_of : Result ℕ ℕ → Handed
+handed_of (Ok index) = record { number = 0; index = index }
+handed_of (Err number) = record { number = number; index = 0 }
 
 abbrev pub hand_refused : ℕ → List ℕ → Handing
 hand_refused number s = record { answer = record { number = number; index = 0 }; bytes = s }

@@ -1,7 +1,7 @@
 // The board in lent bytes: its rules, an offer of records, the hand-out of the first due header, and the list of the due headers.
 #![tactic(auto)]
 
-ghost use Rattle.std.specs.Prelude.{◌≡◌, false, [], ◌+◌, ◌*◌, ◌≤◌, ◌<◌, length, take};
+ghost use Rattle.std.specs.Prelude.{◌≡◌, true, false, [], ◌+◌, ◌*◌, ◌≤◌, ◌<◌, length, take, MatchResult};
 ghost use Rattle.std.proofs.lemmas.List.Edits.{sets};
 ghost use Rattle.octets.specs.Bytes.{every};
 ghost use Rattle.records.specs.Record.{record_ok, carried, aired};
@@ -12,7 +12,7 @@ ghost use Rattle.slots.specs.WorkingSlots.{rec};
 ghost use Rattle.slots.specs.Slots.{recs};
 ghost use Rattle.board.specs.Rules.{board_of};
 ghost use Rattle.board.specs.WorkingRules.{board_ok, added};
-ghost use Rattle.board.specs.WorkingCalls.{offer_of, hand_of, list_refused, list_of, blanks};
+ghost use Rattle.board.specs.WorkingCalls.{added_of, offer_of, handed_of, hand_of, list_refused, list_of, blanks};
 ghost use Rattle.board.specs.WorkingMarks.{Marks, Scanned};
 
 use ledger::Row;
@@ -23,7 +23,10 @@ const MOST: usize = 170;
 
 const BYTES: usize = 65280;
 
-// Answers with numbers and not Results: offer_of, hand_of and list_of promise the numbers 0, 1, 2, 15 and 16 with zeros beside a refusal, as the C interface hands them out.
+// Rows before anything is written to them.
+const NO_ROWS: [Row; MOST] = [Row { index: 0, count: 0 }; MOST];
+
+// Answers with numbers and not Results: offer_of, hand_of and list_of promise the numbers 0, 1, 2, 15 and 16 with zeros beside a refusal; C is answered those of an offer and a hand-out.
 
 // What an offer of records answers: how many were added.
 #[derive(Drop)]
@@ -46,7 +49,7 @@ pub struct Listed {
     pub count: usize,
 }
 
-// The same, and the row of each from the start.
+// The same, and the row of each from the start. An array and a count, no Vec: nothing allocates, and list_rows promises all 170 rows.
 #[derive(Drop)]
 pub struct Rows {
     pub answer: Listed,
@@ -68,13 +71,7 @@ fn is_ascending(s: &[u8], n: usize) -> bool
     requires { n * 384 ≤ length s.now }
     ensures { result ≡ ascending (recs n s.now) }
 {
-    // Neighbours by their indices: a window of two arrays says it no plainer.
-    for i in 1..n {
-        if octets::compare(slots::record_at(s, i - 1), slots::record_at(s, i)).is_ge() {
-            return false;
-        }
-    }
-    true
+    slots::first(s, n).is_sorted_by(|a, b| octets::compare(a, b).is_lt())
 }
 
 // Whether each of the first n records keeps its rules.
@@ -104,7 +101,31 @@ pub fn is_board(s: &[u8]) -> bool
     keeps_rules(s, filled(s))
 }
 
+// How many records a board has, or the number of a refusal: 1 where it does not keep the rules.
+fn board_count(s: &[u8]) -> Result<usize, u32>
+    ensures { MatchResult result (λ n. (n ≡ length (board_of s.now)) × (board_ok s.now ≡ true)) (λ number. (number ≡ 1) × (board_ok s.now ≡ false)) }
+{
+    let n = filled(s);
+    if keeps_rules(s, n) { Ok(n) } else { Err(1) }
+}
+
 // ---- offers
+
+// Adds the first m records of the batch: how many were new, or the number of a refusal.
+fn add_records(s: &mut [u8], batch: &[u8], m: usize) -> Result<usize, u32>
+    requires { m * 384 ≤ length batch.now }
+    ensures value { added_of result ≡ (offer_of s.old (recs m batch.now)).answer }
+    ensures s_after { s.new ≡ (offer_of s.old (recs m batch.now)).bytes }
+    ensures number_bound { ((added_of result).number ≤ 17) × ((added_of result).added ≤ 170) }
+{
+    let n = board_count(s)?;
+    let k = slots::tally(s, n, batch, m);
+    if s.len() < (n + k) * Record::SIZE {
+        return Err(15);
+    }
+    slots::add_all(s, n, batch, m);
+    Ok(k)
+}
 
 // Offers the first m records of the batch: all or none.
 pub fn offer_records(s: &mut [u8], batch: &[u8], m: usize) -> Added
@@ -113,24 +134,9 @@ pub fn offer_records(s: &mut [u8], batch: &[u8], m: usize) -> Added
     ensures s_after { s.new ≡ (offer_of s.old (recs m batch.now)).bytes }
     ensures number_bound { (result.number ≤ 17) × (result.added ≤ 170) }
 {
-    let n = filled(s);
-    if !keeps_rules(s, n) {
-        return Added {
-            number: 1,
-            added: 0,
-        };
-    }
-    let k = slots::tally(s, n, batch, m);
-    if s.len() < (n + k) * Record::SIZE {
-        return Added {
-            number: 15,
-            added: 0,
-        };
-    }
-    slots::add_all(s, n, batch, m);
-    Added {
-        number: 0,
-        added: k,
+    match add_records(s, batch, m) {
+        Ok(added) => Added { number: 0, added },
+        Err(number) => Added { number, added: 0 },
     }
 }
 
@@ -145,8 +151,16 @@ fn is_live(s: &[u8], n: usize, i: usize) -> bool
     if s[at] != Record::NOTICE {
         return false;
     }
-    let w = records::withdrawal_of(&s[at + Record::SENT..at + Record::HEADER]);
-    !slots::holds(s, n, &w.bytes) && !slots::holds(s, n, &slots::aired_at(s, i).bytes)
+    let withdrawal = records::withdrawal_of(&s[at + Record::SENT..at + Record::HEADER]);
+    !slots::holds(s, n, &withdrawal.bytes) && !slots::holds(s, n, &slots::aired_at(s, i).bytes)
+}
+
+// Whether i is the place of a live record among the first n.
+fn is_live_place(s: &[u8], n: usize, i: usize) -> bool
+    requires { n * 384 ≤ length s.now }
+    ensures { i < n → result ≡ live (recs n s.now) (rec i s.now) }
+{
+    i < n && is_live(s, n, i)
 }
 
 // Which of the first n records are live.
@@ -154,12 +168,7 @@ fn live_marks(s: &[u8], n: usize) -> [bool; MOST]
     requires { (n * 384 ≤ length s.now) × (n ≤ 170) }
     ensures { Marks (live (recs n s.now)) (recs n s.now) result }
 {
-    let mut marks = [false; MOST];
-    // By index: a proof knows nothing of what is written through an iterator.
-    for i in 0..n {
-        marks[i] = is_live(s, n, i);
-    }
-    marks
+    std::array::from_fn(|i| is_live_place(s, n, i))
 }
 
 // The first n records, and for each a mark that says whether it is live.
@@ -217,6 +226,7 @@ impl<'a> Marked<'a> {
         ensures { Scanned self.now.n (after (recs self.now.n self.now.s.now) last.now) (recs self.now.n self.now.s.now) result }
     {
         let mut best = None;
+        // By index: the record, its mark and its place are all asked, and `Marks` tells a mark by its place.
         for i in 0..self.n {
             best = self.better(last, best, i);
         }
@@ -246,6 +256,7 @@ impl<'a> Marked<'a> {
         ensures upper_bound { result ≤ self.now.n }
     {
         let mut count = 0;
+        // By index, as in first_after.
         for i in 0..self.n {
             if self.alike(j, i) {
                 count += 1;
@@ -270,8 +281,25 @@ fn air(s: &mut [u8], n: usize, j: usize)
     requires { (j < n) × ((n + 1) * 384 ≤ length s.old) }
     ensures { s.new ≡ added s.old n (aired (carried (rec j s.old))) }
 {
-    let a = slots::aired_at(s, j);
-    slots::add(s, n, &a.bytes);
+    let aired = slots::aired_at(s, j);
+    slots::add(s, n, &aired.bytes);
+}
+
+// Adds the aired record of the first due header: the index of the smallest notice that makes it due, or the number of a refusal.
+fn air_first(s: &mut [u8]) -> Result<usize, u32>
+    ensures value { handed_of result ≡ (hand_of s.old).answer }
+    ensures s_after { s.new ≡ (hand_of s.old).bytes }
+    ensures number_bound { ((handed_of result).number ≤ 17) × ((handed_of result).index < 170) }
+{
+    let n = board_count(s)?;
+    let Some(j) = first_due(s, n) else {
+        return Err(16);
+    };
+    if s.len() < (n + 1) * Record::SIZE {
+        return Err(15);
+    }
+    air(s, n, j);
+    Ok(j)
 }
 
 // Hands out the first due header: its aired record is added.
@@ -280,29 +308,9 @@ pub fn hand_out(s: &mut [u8]) -> Handed
     ensures s_after { s.new ≡ (hand_of s.old).bytes }
     ensures number_bound { (result.number ≤ 17) × (result.index < 170) }
 {
-    let n = filled(s);
-    if !keeps_rules(s, n) {
-        return Handed {
-            number: 1,
-            index: 0,
-        };
-    }
-    let Some(j) = first_due(s, n) else {
-        return Handed {
-            number: 16,
-            index: 0,
-        };
-    };
-    if s.len() < (n + 1) * Record::SIZE {
-        return Handed {
-            number: 15,
-            index: 0,
-        };
-    }
-    air(s, n, j);
-    Handed {
-        number: 0,
-        index: j,
+    match air_first(s) {
+        Ok(index) => Handed { number: 0, index },
+        Err(number) => Handed { number, index: 0 },
     }
 }
 
@@ -317,7 +325,7 @@ fn due_rows(s: &[u8], n: usize) -> Rows
     ensures count_bound { result.answer.count ≤ 170 }
 {
     let marked = Marked::new(s, n);
-    let mut rows = [Row { index: 0, count: 0 }; MOST];
+    let mut rows = NO_ROWS;
     let mut count = 0;
     let mut next = marked.first_after(&[]);
     while let Some(j) = next {
@@ -334,31 +342,17 @@ fn due_rows(s: &[u8], n: usize) -> Rows
     }
 }
 
-// A refusal, which has no rows.
-fn refused(number: u32) -> Rows
-    ensures { result.answer ≡ (list_refused number).answer }
+// The rows of the due headers where so many may be lent, or the number of a refusal.
+fn rows_within(s: &[u8], room: usize) -> Result<Rows, u32>
+    ensures value { MatchResult result (λ due. (due.answer ≡ (list_of s.now room).answer) × (take due.answer.count due.rows ≡ (list_of s.now room).rows)) (λ number. list_of s.now room ≡ list_refused number) }
+    ensures number_bound { MatchResult result (λ due. (due.answer.number ≤ 17) × (due.answer.count ≤ 170)) (λ number. number ≤ 17) }
 {
-    Rows {
-        answer: Listed { number, count: 0 },
-        rows: [Row { index: 0, count: 0 }; MOST],
-    }
-}
-
-// What the list answers with so many rows lent, and the rows: none on a refusal.
-fn listing(s: &[u8], room: usize) -> Rows
-    ensures answer_value { result.answer ≡ (list_of s.now room).answer }
-    ensures rows_value { take result.answer.count result.rows ≡ (list_of s.now room).rows }
-    ensures number_bound { (result.answer.number ≤ 17) × (result.answer.count ≤ 170) }
-{
-    let n = filled(s);
-    if !keeps_rules(s, n) {
-        return refused(1);
-    }
+    let n = board_count(s)?;
     let due = due_rows(s, n);
     if room < due.answer.count {
-        return refused(2);
+        return Err(2);
     }
-    due
+    Ok(due)
 }
 
 // Lists the due headers in header order: a row of index and count for each.
@@ -367,10 +361,14 @@ pub fn list(s: &[u8], rows: &mut [Row]) -> Listed
     ensures rows_after { rows.new ≡ sets rows.old 0 (list_of s.now (length rows.old)).rows }
     ensures number_bound { (result.number ≤ 17) × (result.count ≤ 170) }
 {
-    let due = listing(s, rows.len());
-    let n = due.answer.count;
-    rows[..n].copy_from_slice(&due.rows[..n]);
-    due.answer
+    match rows_within(s, rows.len()) {
+        Ok(due) => {
+            let n = due.answer.count;
+            rows[..n].copy_from_slice(&due.rows[..n]);
+            due.answer
+        }
+        Err(number) => Listed { number, count: 0 },
+    }
 }
 
 // The list into so many rows of an array of its own.
@@ -379,9 +377,9 @@ pub fn list_rows(s: &[u8], room: usize) -> Rows
     ensures rows_value { result.rows ≡ sets blanks 0 (list_of s.now room).rows }
     ensures number_bound { (result.answer.number ≤ 17) × (result.answer.count ≤ 170) }
 {
-    let mut rows = [Row { index: 0, count: 0 }; MOST];
+    let mut rows = NO_ROWS;
     // a board has no more due headers than it has records
-    let m = room.min(MOST);
-    let answer = list(s, &mut rows[..m]);
+    let most = room.min(MOST);
+    let answer = list(s, &mut rows[..most]);
     Rows { answer, rows }
 }

@@ -41,29 +41,12 @@ fn stirs(b: u8, c: u8) -> u8
     }
 }
 
-// Whether the sixteen bytes from `at` are calm; some that are may be missed.
-fn is_block(s: &[u8], at: usize) -> bool
-    requires { at + 17 ≤ length s.now }
-    ensures { result ≡ true → Calm s.now at 16 }
-{
-    let mut n = 0;
-    for k in 0..16 {
-        n += stirs(s[at + k], s[at + k + 1]);
-    }
-    n == 0
-}
-
 // How many bytes from `at` on stand in calm blocks, of the first g. The last byte of a block is told with the byte behind it.
 pub fn calm_blocks(s: &[u8], at: usize, g: usize) -> usize
     ensures { (result ≤ g) × Calm s.now at result }
 {
     let room = s.len().saturating_sub(at).saturating_sub(1).min(g);
-    for k in 0..room / 16 {
-        if !is_block(s, at + 16 * k) {
-            return 16 * k;
-        }
-    }
-    room / 16 * 16
+    octets::blocks(room, |k| stirs(s[at + k], s[at + k + 1]))
 }
 
 // ---- runs
@@ -93,7 +76,8 @@ fn softened(b: u8) -> u8
     b.max(b' ')
 }
 
-// Puts the n calm bytes from i into `out` from `e` on, white space as a space.
+// Puts the n calm bytes from i into `out` from `e` on, white space as a space. By index: two slices go side by side, and a proof knows nothing of what is written
+// through an iterator.
 pub fn put_calm(s: &[u8], i: usize, n: usize, out: &mut [u8], e: usize)
     requires calm { Calm s.now i n }
     requires n_in_bounds { e + n ≤ length out.old }

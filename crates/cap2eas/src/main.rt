@@ -26,7 +26,7 @@ fn read_all(input: &mut impl Read, message: &mut [u8]) -> io::Result<usize>
 
 fn main(rt: HostRuntime) -> io::Result<()> {
     let mut message = [0u8; ROOM];
-    let mut out = [0u8; 8704];
+    let mut out = [0u8; report::ROOM];
     let n = read_all(&mut rt.reader(), &mut message)?;
     let end = report::program(&message[..n], &mut out);
     rt.write_all(&out[..end])

@@ -62,7 +62,7 @@ pub(crate) fn canadian(asked: &[u8], out: &mut Answer) -> Option<()> {
 pub(crate) fn program(asked: &[u8], out: &mut Answer) -> Option<()> {
     let mut message = [0u8; ROOM];
     let message = lines::unhex(asked, &mut message)?;
-    let mut printed = [0u8; 8704];
+    let mut printed = [0u8; report::ROOM];
     let n = report::program(message, &mut printed);
     write!(out, "{}", Hex(lines::front(&printed, n))).ok()
 }

@@ -1,25 +1,18 @@
 // The case lines `read` and `write`.
 use crate::lines::{self, Answer, Buffer, Hex, LENT, ROOM};
-use parts::{Originator, Parts};
+use parts::Parts;
 use std::fmt;
 use std::fmt::Write;
 
 // ---- read HEADER
 
-fn originator_word(o: Originator) -> &'static str {
-    match o {
-        Originator::Pep => "PEP",
-        Originator::Eas => "EAS",
-        Originator::Wxr => "WXR",
-        Originator::Civ => "CIV",
-    }
-}
-
 fn put_parts(p: &Parts, out: &mut Answer) -> fmt::Result {
     let b = p.body;
-    write!(out, " {} ", originator_word(b.originator))?;
+    out.put(b" ");
+    out.put(b.originator.code());
+    out.put(b" ");
     out.put(&b.event);
-    write!(out, " ")?;
+    out.put(b" ");
     lines::put_locations(lines::front(&b.locations, b.count), out)?;
     let station = Hex(&p.station);
     write!(
@@ -48,11 +41,8 @@ fn text(t: &[u8]) -> Option<&[u8]> {
 
 // The number that `header::write_asked` takes for an originator's word, and 0 for any other.
 fn originator_number(t: &[u8]) -> u32 {
-    match str::from_utf8(t) {
-        Ok("PEP") => 1,
-        Ok("EAS") => 2,
-        Ok("WXR") => 3,
-        Ok("CIV") => 4,
+    match parts::originator_of(t, 0) {
+        Some(originator) if t.len() == 3 => parts::originator_number(originator),
         _ => 0,
     }
 }

@@ -6,7 +6,7 @@ use std::fmt;
 use std::fmt::Write;
 
 // The longest message that is read, which is longer than a legal one.
-const LONGEST: usize = 32770;
+const LONGEST: usize = message::LONGEST + 2;
 
 // A number, a colon and the first 40 characters of the value at `place`, in UTF-8, in hexadecimal.
 fn put_value(s: &[u8], number: u32, place: usize, out: &mut Answer) -> fmt::Result {

@@ -58,19 +58,19 @@ fn join(s: &[u8], i: usize, n: u32) -> u32
 pub fn scalar(s: &[u8], at: usize) -> u32
     ensures { result ≡ scalar_at s.now at }
 {
-    let a = octets::byte(s, at);
-    match a {
-        0..=127 => legal_from(0, u32::from(a)),
+    let lead = octets::byte(s, at);
+    match lead {
+        0..=127 => legal_from(0, u32::from(lead)),
         128..=191 => 0,
-        192..=223 => legal_from(128, join(s, at + 1, u32::from(a - 192))),
+        192..=223 => legal_from(128, join(s, at + 1, u32::from(lead - 192))),
         224..=239 => {
-            let b = join(s, at + 1, u32::from(a - 224));
-            legal_from(2048, join(s, at + 2, b))
+            let two = join(s, at + 1, u32::from(lead - 224));
+            legal_from(2048, join(s, at + 2, two))
         }
         240..=255 => {
-            let b = join(s, at + 1, u32::from(a - 240));
-            let c = join(s, at + 2, b);
-            legal_from(65536, join(s, at + 3, c))
+            let two = join(s, at + 1, u32::from(lead - 240));
+            let three = join(s, at + 2, two);
+            legal_from(65536, join(s, at + 3, three))
         }
     }
 }

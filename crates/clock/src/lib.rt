@@ -11,6 +11,9 @@ ghost use Rattle.clock.specs.Period.{period_of};
 ghost use Rattle.clock.specs.Stamp.{year_day_of, stamp_of, instant_of};
 ghost use Rattle.clock.specs.Written.{tttt, jjjhhmm};
 
+// The seconds of 2000 to 2099.
+pub const SPAN: u32 = 3155760000;
+
 // A day in its year, the first being 1.
 #[derive(Clone, Copy)]
 pub struct YearDay {
@@ -162,7 +165,7 @@ fn in_span(t: i64) -> Option<u32>
     ensures { result ≡ in_span t }
 {
     let seconds = u32::try_from(t).ok()?;
-    (seconds < 3155760000).then_some(seconds)
+    (seconds < SPAN).then_some(seconds)
 }
 
 // The instant of a time.

@@ -84,7 +84,7 @@ pub fn header(message: &[u8], station: &[u8], out: &mut [u8]) -> Headed
     ensures value { result ≡ header_answer_of (header_call message.now station.now (length out.old)) }
     ensures out_after { out.new ≡ sets out.old 0 (header_call message.now station.now (length out.old)).given.header }
 {
-    if out.len() < 252 {
+    if out.len() < header::MOST {
         return no_header(2, 0);
     }
     let j = judge(message, station);

@@ -30,7 +30,7 @@ impl Faults {
             | u32::from(self.other) << 6
     }
 
-    // The field: the lowest of 1 to 6 at fault, else 7; 0 where none is.
+    // The field: the lowest of 1 to 6 at fault, else 7; 0 where none is, as `lowest` says, and the calls answer that number.
     pub fn field(self) -> u32
         ensures { result ≡ lowest (self.identifier ∷ self.sender ∷ self.sent ∷ self.status ∷ self.msg_type ∷ self.scope ∷ self.other ∷ []) }
     {

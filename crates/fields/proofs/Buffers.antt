@@ -1,15 +1,13 @@
 -- What was put at the front of a buffer d of m bytes, which is then x, is taken from there.
 --     taken_back      the first n bytes are the run w that was put, if it fits
---     copied-front    the same of a copy of a value v, cut to fit
 --     cut             where a run of more than n elements is refused, the first n + 1 are judged as the whole
-use Prim.Native.Nat.{ℕ, suc, ◌+◌, ◌-◌, ◌≤◌, ◌<◌}
+use Prim.Native.Nat.{ℕ, suc, ◌+◌, ◌≤◌, ◌<◌}
 use mathlib.Core.Path.{◌≡◌, sym, ap, ◌∙◌}
-use mathlib.Core.List.{List, map}
+use mathlib.Core.List.{List}
 use native.Mathlib.Omega.{arith}
 use native.Mathlib.Decide.{dec_lt}
-use lib.ListN.{length, take, drop, length-take, length-map}
+use lib.ListN.{length, take, drop, length-take}
 use lib.Seq.{sets, length-sets, sets-eq, take_at, take_all}
-use Rattle.values.specs.WorkingSteps.{low}
 
 module _ (d w x : List ℕ) (m n : ℕ) (l : length d ≡ m) (p : x ≡ sets d 0 w) (e : n ≡ length w) where
   pub put-long : length x ≡ m
@@ -22,26 +20,6 @@ module _ (d w x : List ℕ) (m n : ℕ) (l : length d ≡ m) (p : x ≡ sets d 0
 
   pub taken-long : n ≤ m → n ≡ length (take n x)
   taken-long h = e ∙ sym (ap length (taken_back h))
-
-module _ (d v x : List ℕ) (m n : ℕ) (l : length d ≡ m) (p : x ≡ sets d 0 (map low (take m v))) (e : n ≡ length (take m v)) where
-  short : n ≤ m
-  short = let k : length (take m v) ≤ m = simp length-take (omega arith) in omega arith
-
-  low-long : n ≡ length (map low (take m v))
-  low-long = e ∙ sym (length-map (take m v) low)
-
-  pub copy-fits : n ≤ length x
-  copy-fits = let k = short in let q = put-long d (map low (take m v)) x m n l p low-long in omega arith
-
-  pub copied-front : take n x ≡ map low (take m v)
-  copied-front = taken_back d (map low (take m v)) x m n l p low-long short
-
-  pub copied-long : n ≡ length (take n x)
-  copied-long = taken-long d (map low (take m v)) x m n l p low-long short
-
-  -- as a range from 0 takes it
-  pub copied-back : take (n - 0) (drop 0 x) ≡ map low (take m v)
-  copied-back = let q : n - 0 ≡ n = omega arith in ap (λ (k : ℕ). take k x) q ∙ copied-front
 
 pub cut : {A : Type 0} (f : List ℕ → A) (bad : A) (n : ℕ) → ((t : List ℕ) → n < length t → f t ≡ bad) → (v : List ℕ) → f (take (suc n) v) ≡ f v
 cut f bad n long v = go (dec_lt n (length v))

@@ -9,6 +9,10 @@ use borrow.Author.Tests.{le-leb, lt-leb}
 use lib.Dec.{leb}
 use lib.ListN.{length, take, replicate, length-map}
 use lib.Seq.{sets}
+use Rattle.std.proofs.Common.{Bor}
+use Rattle.std.specs.Prelude.{Option, Some, None, MatchOption}
+use Rattle.std.specs.Slice.{IsGetRangeResult}
+use mathlib.Core.Logic.{⊎_elim}
 use Rattle.octets.specs.Bytes.{pick, every, holds, between, one_of}
 use Rattle.octets.proofs.Tests.{every_of, one-fails, every-step, every-stop, every-none}
 use Rattle.values.specs.Value.{value_at}
@@ -19,7 +23,7 @@ use Rattle.fields.specs.References.{words}
 use Rattle.fields.specs.WorkingWords.{word_in, next_word, word_at}
 use Rattle.fields.specs.declared.Word.{Word}
 use Rattle.fields.proofs.Buffers.{put-long, taken_back, taken-long}
-use Rattle.fields.proofs.Groups.{group-low}
+use Rattle.fields.proofs.Groups.{group-long, group-low}
 use Rattle.fields.proofs.Words.{words-some, value-words, len_is}
 
 -- at most n words, each a group
@@ -80,3 +84,11 @@ module _ (s : List ℕ) (i : ℕ) (w : Word) (x : List ℕ) (e : w ≡ word_at s
 
   pub judged : w.len ≤ 155 → {r : Bool} → r ≡ group_ok (take w.len x) → group_ok (word_in s i) ≡ r
   judged h q = sym (q ∙ ap group_ok (word_copied h) ∙ group-low (word_in s i))
+
+  -- as the buffer is asked for the word: none where it is longer, and then it is no group
+  pub asked : (o : Option (Bor (List ℕ))) (r : Bool) → IsGetRangeResult x 0 w.len o → MatchOption o (r ≡ false) (λ t. r ≡ group_ok t.now) → group_ok (word_in s i) ≡ r
+  asked None r g h = group-long (word_in s i) w.len (len_is s i w e) (⊎_elim (λ l. absurd (omega (arith, l))) (λ l. omega (arith, l, word_room)) g.0) ∙ sym h
+  asked (Some t) r g h =
+      let l : w.len ≤ 155 = omega (arith, g.0.1, word_room) in
+      let q : w.len - 0 ≡ w.len = omega arith in
+      judged l (h ∙ ap group_ok (g.0.2 ∙ ap (λ (k : ℕ). take k x) q))

@@ -37,7 +37,8 @@ pub enum Scope {
     Private,
 }
 
-// The msgTypes of CAP 1.2; Unknown where the value is none of them, or there is no such leaf, as `msg_type_in` and the message of a refusal have it.
+// The msgTypes of CAP 1.2. Unknown and no Option: `msg_type_in` answers it where the value is none of them, `typed` where no leaf says it, and a refused
+// message has it (`refused_as`).
 #[derive(Clone, Copy, PartialEq, Eq)]
 pub enum MsgType {
     Unknown,
@@ -63,22 +64,22 @@ pub fn is_identity(t: &[u8]) -> bool
     matches!(t.len(), 1..=64) && t.iter().all(|b| is_identity_byte(*b))
 }
 
+// Whether the value is a sender or an identifier; 65 characters of it tell, for the longest has 64.
 pub fn identity_at(s: &[u8], at: usize) -> bool
     ensures { result ≡ identity_ok (value_at s.now at) }
 {
-    let mut b = [0u8; 65];
-    let n = values::copy(s, at, 65, &mut b, 0);
-    is_identity(&b[..n])
+    let mut room = [0u8; 65];
+    is_identity(values::front(s, at, &mut room))
 }
 
 // ---- times
 
+// The time that the value is, if it is one; 26 characters of it tell, for a time has 25.
 pub fn time_at(s: &[u8], at: usize) -> Option<u32>
     ensures { result ≡ time_of (value_at s.now at) }
 {
-    let mut b = [0u8; 26];
-    let n = values::copy(s, at, 26, &mut b, 0);
-    clock::instant(&b[..n])
+    let mut room = [0u8; 26];
+    clock::instant(values::front(s, at, &mut room))
 }
 
 // ---- status, scope and msgType
@@ -138,15 +139,17 @@ pub fn comma(t: &[u8], at: usize) -> usize
 pub fn is_group(t: &[u8]) -> bool
     ensures { result ≡ group_ok t.now }
 {
-    let a = comma(t, 0);
-    if a == t.len() {
+    let first = comma(t, 0);
+    if first == t.len() {
         return false;
     }
-    let b = comma(t, a + 1);
-    if b == t.len() {
+    let second = comma(t, first + 1);
+    if second == t.len() {
         return false;
     }
-    is_identity(&t[..a]) && is_identity(&t[a + 1..b]) && clock::instant(&t[b + 1..]).is_some()
+    is_identity(&t[..first])
+        && is_identity(&t[first + 1..second])
+        && clock::instant(&t[second + 1..]).is_some()
 }
 
 // ---- references: groups parted by space
@@ -160,8 +163,8 @@ fn keep(out: &mut [u8], k: usize, c: u8)
     }
 }
 
-// Not an iterator's loop: each step tells where the next character stands.
 // The next word of a value from a place in it; as much of it as there is room for is put into `out`, each character as one byte.
+// Not an iterator's loop: each step tells where the next character stands.
 pub fn next_word(s: &[u8], at: usize, out: &mut [u8]) -> Word
     ensures value { result ≡ word_at s.now at }
     ensures out_after { out.new ≡ sets out.old 0 (map low (word_in s.now at)) }
@@ -184,15 +187,15 @@ pub fn next_word(s: &[u8], at: usize, out: &mut [u8]) -> Word
 
 const MOST_GROUPS: usize = 16;
 
-// Whether the value is 1 to 16 groups parted by space; a group has 155 bytes at most.
+// Whether the value is 1 to 16 groups parted by space; a group has 155 bytes at most, so that a word without room is none.
 pub fn references_at(s: &[u8], at: usize) -> bool
     ensures { result ≡ references_ok (value_at s.now at) }
 {
     let mut i = values::lead(s, at);
     for _ in 0..MOST_GROUPS {
-        let mut b = [0u8; 155];
-        let w = next_word(s, i, &mut b);
-        if 155 < w.len || !is_group(&b[..w.len]) {
+        let mut room = [0u8; 155];
+        let w = next_word(s, i, &mut room);
+        if !room.get(..w.len).is_some_and(is_group) {
             return false;
         }
         match w.next {

@@ -12,13 +12,14 @@ use reads::{Context, Kept, Leaf, Locations, Parameters, State};
 use tags::Open;
 
 // What is learnt of a leaf: that it holds an element, or that one more stands, whose value begins at a place.
+// No Option: that a leaf holds an element is learnt as much as that it stands, and `touched` tells the two.
 #[derive(Clone, Copy)]
 pub enum Touch {
     Holds,
     Stands(usize),
 }
 
-// Where what is read ends, and what is gathered with it.
+// Where what is read ends, and what is gathered with it. A state also where there is no end: `got_one` answers one there, in which nothing is read.
 #[derive(Drop)]
 pub struct Gathered {
     pub end: Option<usize>,
@@ -188,18 +189,21 @@ fn read_element(
     }
     match tags::open_tag(s, at) {
         Open::Shut => None,
-        Open::Empty(a, j) => {
-            let k = reads::context_of(s, p, at + 1, a, c, st.alert.kept);
+        Open::Empty { name_end, end } => {
+            let k = reads::context_of(s, p, at + 1, name_end, c, st.alert.kept);
             touch_leaf(c, Touch::Holds, st);
             leave(s, k, s.len(), st);
-            Some(j)
+            Some(end)
         }
-        Open::Full(a, j) => {
-            let k = reads::context_of(s, p, at + 1, a, c, st.alert.kept);
+        Open::Full {
+            name_end,
+            end: start,
+        } => {
+            let k = reads::context_of(s, p, at + 1, name_end, c, st.alert.kept);
             touch_leaf(c, Touch::Holds, st);
-            let e = read_content(s, p, j, depth - 1, k, st)?;
-            let end = tags::close_tag(s, at, a, e)?;
-            leave(s, k, place(s, j, e), st);
+            let e = read_content(s, p, start, depth - 1, k, st)?;
+            let end = tags::close_tag(s, at, name_end, e)?;
+            leave(s, k, place(s, start, e), st);
             Some(end)
         }
     }

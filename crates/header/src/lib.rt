@@ -9,6 +9,9 @@ ghost use Rattle.header.specs.Header.{header_bytes, parts_read, refusal, read_of
 
 use parts::{Body, Originator, Parts};
 
+// The most bytes that a header has: those of 31 locations.
+pub const MOST: usize = 252;
+
 // The day of the year, hour and minute of a header.
 #[derive(Clone, Copy)]
 struct Time {
@@ -49,16 +52,13 @@ fn head_of(s: &[u8]) -> Option<Originator>
         return None;
     }
     let originator = parts::originator_of(s, 5)?;
-    if s[8] != b'-' {
-        return None;
-    }
-    if !parts::event_ok(&s[9..12]) {
+    if s[8] != b'-' || !parts::event_ok(&s[9..12]) {
         return None;
     }
     Some(originator)
 }
 
-// The n locations from `at`, each a dash and six digits; the first that is none refuses them all.
+// The n locations from `at`, each a dash and six digits. By index: a proof knows nothing of what is written through an iterator.
 fn locations_of(s: &[u8], at: usize, n: usize) -> Option<[u32; 31]>
     requires n_in_bounds { at + 7 * n ≤ length s.now }
     requires n_bound { n ≤ 31 }
@@ -66,11 +66,11 @@ fn locations_of(s: &[u8], at: usize, n: usize) -> Option<[u32; 31]>
 {
     let mut list = [0u32; 31];
     for k in 0..n {
-        let b = at + 7 * k;
-        if s[b] != b'-' {
+        let dash = at + 7 * k;
+        if s[dash] != b'-' {
             return None;
         }
-        list[k] = octets::number(s, b + 1, 6)?;
+        list[k] = octets::number(s, dash + 1, 6)?;
     }
     Some(list)
 }
@@ -207,15 +207,17 @@ pub fn read_header(s: &[u8]) -> Read
 
 // ---- writing
 
+// An output and a place in it go side by side: docs/PROMISES.md names what `put_body` asks of the two, and `sets` takes them apart.
+
 // The locations, each after a dash.
 fn put_locations(out: &mut [u8], at: usize, locations: &[u32])
     requires { at + 7 * length locations.now ≤ length out.old }
     ensures { out.new ≡ sets out.old at (locations_bytes locations.now) }
 {
     for (k, location) in locations.iter().enumerate() {
-        let b = at + 7 * k;
-        octets::put_byte(out, b, b'-');
-        octets::put_number(out, b + 1, 6, *location);
+        let dash = at + 7 * k;
+        octets::put_byte(out, dash, b'-');
+        octets::put_number(out, dash + 1, 6, *location);
     }
 }
 
@@ -261,7 +263,7 @@ pub fn write_header(out: &mut [u8], p: Parts) -> Written
     ensures value { result ≡ write_of out.old p }
     ensures out_after { out.new ≡ write_bytes out.old p }
 {
-    if out.len() < 252 {
+    if out.len() < MOST {
         return Written { number: 2, len: 0 };
     }
     if !parts::station_ok(&p.station) {

@@ -7,7 +7,8 @@ use borrow.Author.Tests.{eq-eqb, ne_eqb}
 use Rattle.octets.specs.Bytes.{pick}
 use Rattle.values.specs.Value.{value_at}
 use Rattle.parts.specs.declared.Originator.{Originator}
-use Rattle.std.specs.Prelude.{Some, None}
+use Rattle.std.specs.Prelude.{Option, Some, None, Result, Ok, Err, IsErrAnd}
+use Rattle.std.specs.Option.{ok_or}
 use Rattle.reads.specs.WorkingLeaves.{eas_org_leaf}
 use Rattle.reads.specs.declared.Leaf.{Leaf}
 use Rattle.message.specs.declared.Message.{Message}
@@ -31,6 +32,12 @@ event-some s l e h = go (event_is s l) h
     go : (b : Bool) → pick b (Some (value_at s l.at)) None ≡ Some e → (b ≡ true) × (e ≡ value_at s l.at)
     go true k = (refl, cc)
     go false k = absurd cc
+
+-- a part that is none is refused by its number
+pub refusing : {A B : Type 0} (o : Option A) (n k : ℕ) (r : Result B ℕ) → ok_or o n ≡ Err k → IsErrAnd r (λ f. f ≡ k) → (o ≡ None) × (r ≡ Err n)
+refusing None n k (Ok b) h g = absurd g
+refusing None n k (Err f) h g = (refl, cc)
+refusing (Some x) n k r h g = absurd cc
 
 module _ (s : List ℕ) (m : Message) where
   pub no-event : event_of s (info_in m).events.same ≡ None → without m 11 false ≡ alerted s m

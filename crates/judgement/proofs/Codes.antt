@@ -1,17 +1,17 @@
--- Codes of three characters, copied into a buffer of four bytes.
+-- Codes of three characters, of which the front of four is judged.
 --     event-kept           an event's characters are such as a copy keeps
---     event-judged         a copy of the first four characters is judged as the whole
---     three_back           three that were put are a copy of the whole value
+--     event-judged         the front of four characters is judged as the whole
+--     three_back           a front of three is a copy of the whole value
 --     origin-low           a copy names the originator that the value names
 --     origin-other         no originator has another length than three
-use Prim.Native.Nat.{ℕ, ◌-◌}
+use Prim.Native.Nat.{ℕ}
 use mathlib.Core.Path.{◌≡◌, refl, sym, ap, ◌∙◌}
 use mathlib.Core.Bool.{Bool, true, false}
 use mathlib.Core.List.{List, map}
 use native.Mathlib.Omega.{arith}
 use borrow.Author.Tests.{ne_eqb}
-use lib.ListN.{length, take, replicate, length-take}
-use lib.Seq.{sets, take_all}
+use lib.ListN.{length, take, length-take, length-map}
+use lib.Seq.{take_all}
 use Rattle.octets.specs.Bytes.{every, between, part, same, is_capital}
 use Rattle.octets.specs.Text.{bytes}
 use Rattle.octets.proofs.Tests.{one-fails, between-low, between-high, between_is}
@@ -24,7 +24,7 @@ use Rattle.parts.specs.Parts.{event_tests, event_ok}
 use Rattle.parts.specs.declared.Originator.TheVariants.{Pep, Eas, Wxr, Civ}
 use Rattle.std.specs.Prelude.{None}
 use Rattle.parts.proofs.Has.{event-capitals}
-use Rattle.fields.proofs.Buffers.{copied-back, cut}
+use Rattle.fields.proofs.Buffers.{cut}
 
 capital-kept : (c : ℕ) → is_capital c ≡ true → is_kept c ≡ true
 unfolding is_capital
@@ -49,20 +49,21 @@ pub origin-other : (v : List ℕ) → (length v ≡ 3 → ⊥) → originator_of
 unfolding originator_of originator_bytes bytes
 origin-other v h = rw (same-long v (bytes "PEP") h, same-long v (bytes "EAS") h, same-long v (bytes "WXR") h, same-long v (bytes "CIV") h)
 
-module _ (v x : List ℕ) (n : ℕ) (p : x ≡ sets (replicate {A = ℕ} 4 0) 0 (map low (take 4 v))) (e : n ≡ length (take 4 v)) where
-  front : take n x ≡ map low (take 4 v)
-  front = let q : n ≡ n - 0 = omega arith in ap (λ (k : ℕ). take k x) q ∙ copied-back (replicate {A = ℕ} 4 0) v x 4 n refl p e
+-- w is the front of the value
+module _ (v w : List ℕ) (p : w ≡ map low (take 4 v)) where
+  pub event-judged : (r : Bool) → r ≡ event_ok w → r ≡ event_ok v
+  event-judged r h = h ∙ ap event_ok p ∙ event-copied v
 
-  pub event-judged : (r : Bool) → r ≡ event_ok (take n x) → r ≡ event_ok v
-  event-judged r h = h ∙ ap event_ok front ∙ event-copied v
+  long : length w ≡ length (take 4 v)
+  long = ap length p ∙ length-map (take 4 v) low
 
-  three-is : n ≡ 3 → length v ≡ 3
-  three-is h = let k : length (take 4 v) ≡ 3 = sym e ∙ h in let q = simp length-take at k in omega arith
+  three-is : length w ≡ 3 → length v ≡ 3
+  three-is h = let k : length (take 4 v) ≡ 3 = sym long ∙ h in let q = simp length-take at k in omega arith
 
-  pub three-of : length v ≡ 3 → n ≡ 3
-  three-of h = rw e (simp length-take (omega arith))
+  pub three-of : length v ≡ 3 → length w ≡ 3
+  three-of h = rw long (simp length-take (omega arith))
 
-  pub three_back : n ≡ 3 → part x 0 3 ≡ map low v
+  pub three_back : length w ≡ 3 → part w 0 3 ≡ map low v
   three_back h =
       let l : length v ≡ 3 = three-is h in
-      ap (λ (k : ℕ). take k x) (sym h) ∙ front ∙ ap (map low) (take_all 4 v (omega arith))
+      take_all 3 w (omega arith) ∙ p ∙ ap (map low) (take_all 4 v (omega arith))

@@ -1,5 +1,5 @@
 -- A message judged: numbers 4 to 14, the lowest that applies.
-use Rattle.std.specs.Prelude.{ℕ, Bool, true, false, List, eqb}
+use Rattle.std.specs.Prelude.{ℕ, Bool, true, false, List, eqb, Result, Ok, Err}
 use Rattle.octets.specs.Bytes.{pick}
 use Rattle.clock.specs.Stamp.{stamp_of}
 use Rattle.clock.specs.Period.{period_of}
@@ -48,6 +48,11 @@ body_in s m =
     (info_in m).locations
     (lasting s m)
     m.sent
+
+-- a message with its body, or the number that it is refused by
+abbrev pub answered : Message → Result Body ℕ → Judged
+answered m (Ok body) = record { number = 0; field = m.field; quiet = false; body = body; message = m }
+answered m (Err number) = without m number false
 
 -- 11 SAME event absent, twice or malformed; 12 originator; 13 SAME location absent or malformed; 14 expires absent, malformed or not after sent
 unfoldable pub alerted : List ℕ → Message → Judged

@@ -5,7 +5,7 @@ ghost use Rattle.std.specs.Prelude.{◌≡◌, ◌<◌, ◌-◌};
 ghost use Rattle.octets.specs.Bytes.{every, holds};
 ghost use Rattle.clock.specs.Time.{span};
 ghost use Rattle.judgement.specs.WorkingRules.{asks_references, referenced, lacks_references, event_of, origin_of, located, seconds_to, unplaced, complete, is_cancel, quiet_of};
-ghost use Rattle.judgement.specs.WorkingJudged.{without, refused_before, body_with, alerted, judged_of};
+ghost use Rattle.judgement.specs.WorkingJudged.{without, refused_before, body_with, answered, alerted, judged_of};
 
 use fields::MsgType;
 use message::Message;
@@ -54,12 +54,12 @@ fn event_of(s: &[u8], l: Leaf) -> Option<[u8; 3]>
     if l.count != 1 {
         return None;
     }
-    let mut b = [0u8; 4];
-    let n = values::copy(s, l.at, 4, &mut b, 0);
-    if !parts::event_ok(&b[..n]) {
+    let mut room = [0u8; 4];
+    let code = values::front(s, l.at, &mut room);
+    if !parts::event_ok(code) {
         return None;
     }
-    Some(parts::bytes_at(&b, 0))
+    Some(parts::bytes_at(code, 0))
 }
 
 // The originator of the EAS-ORG parameter.
@@ -69,12 +69,12 @@ fn origin_of(s: &[u8], l: Leaf) -> Option<Originator>
     if l.count == 0 {
         return Some(Originator::Civ);
     }
-    let mut b = [0u8; 4];
-    let n = values::copy(s, l.at, 4, &mut b, 0);
-    if n != 3 {
+    let mut room = [0u8; 4];
+    let code = values::front(s, l.at, &mut room);
+    if code.len() != 3 {
         return None;
     }
-    parts::originator_of(&b, 0)
+    parts::originator_of(code, 0)
 }
 
 fn is_located(l: Locations) -> bool
@@ -89,7 +89,8 @@ fn is_unplaced(l: Locations) -> bool
     !l.bad && l.count == 0
 }
 
-// The seconds from sent to the expires leaf; 0 where it is absent, malformed or not after sent.
+// The seconds from sent to the expires leaf; 0 and no Option where it is absent, malformed or not after sent, as `seconds_to` says, for each of them is
+// number 14.
 fn seconds_to(s: &[u8], l: Leaf, sent: u32) -> u32
     ensures { result ≡ seconds_to s.now l sent }
 {
@@ -148,6 +149,7 @@ fn body_with(o: Originator, event: [u8; 3], l: Locations, seconds: u32, sent: u3
     ensures { result ≡ body_with o event l seconds sent }
 {
     let on = clock::stamp_of(sent);
+    // a variable, for the borrow checker covers no array that goes from a field straight into another
     let locations = l.list;
     Body {
         originator: o,
@@ -161,31 +163,38 @@ fn body_with(o: Originator, event: [u8; 3], l: Locations, seconds: u32, sent: u3
     }
 }
 
-// Numbers 11 to 14 of a message that passed 4 to 10 and is not quiet.
+// The body of a message that passed 4 to 10 and is not quiet, or the first of the numbers 11 to 14 that is against it.
+fn body_of(s: &[u8], m: Message) -> Result<Body, u32>
+    requires { m.sent < span }
+    ensures { answered m result ≡ alerted s.now m }
+{
+    let info = m.alert.info;
+    let event = event_of(s, info.events.same).ok_or(11u32)?;
+    let originator = origin_of(s, info.parameters.leaf[reads::EAS_ORG]).ok_or(12u32)?;
+    if !is_located(info.locations) {
+        return Err(13);
+    }
+    let seconds = seconds_to(s, info.leaf[reads::EXPIRES], m.sent);
+    if seconds == 0 {
+        return Err(14);
+    }
+    Ok(body_with(originator, event, info.locations, seconds, m.sent))
+}
+
+// The judgement of such a message.
 fn alert_of(s: &[u8], m: Message) -> Judged
     requires { m.sent < span }
     ensures { result ≡ alerted s.now m }
 {
-    let info = m.alert.info;
-    let Some(event) = event_of(s, info.events.same) else {
-        return no_header(m, 11, false);
-    };
-    let Some(originator) = origin_of(s, info.parameters.leaf[reads::EAS_ORG]) else {
-        return no_header(m, 12, false);
-    };
-    if !is_located(info.locations) {
-        return no_header(m, 13, false);
-    }
-    let seconds = seconds_to(s, info.leaf[reads::EXPIRES], m.sent);
-    if seconds == 0 {
-        return no_header(m, 14, false);
-    }
-    Judged {
-        number: 0,
-        field: m.field,
-        quiet: false,
-        body: body_with(originator, event, info.locations, seconds, m.sent),
-        message: m,
+    match body_of(s, m) {
+        Ok(body) => Judged {
+            number: 0,
+            field: m.field,
+            quiet: false,
+            body,
+            message: m,
+        },
+        Err(number) => no_header(m, number, false),
     }
 }
 

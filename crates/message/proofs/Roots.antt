@@ -1,15 +1,20 @@
 -- From the root to the message: the pass over an accepted root gathers what is read in it, and the root's own tag says its prefix and namespace.
-use Prim.Native.Nat.{ℕ, ◌+◌, ◌-◌, ◌≤◌, ◌<◌}
-use mathlib.Core.Path.{◌≡◌, refl, sym, ap, ◌∙◌}
-use mathlib.Core.Bool.{Bool, true, false}
+use Prim.Native.Nat.{ℕ, zero, suc, ◌+◌, ◌-◌, ◌≤◌, ◌<◌}
+use mathlib.Core.Path.{◌≡◌, refl, sym, ap, ap₂, ◌∙◌}
+use mathlib.Core.Bool.{Bool, true, false, not, cond}
 use mathlib.Core.List.{List, [], ◌++◌}
 use native.Mathlib.Omega.{arith}
-use lib.ListN.{length}
+use native.Mathlib.Decide.{dec_lt}
+use Rattle.std.specs.Bool.{then_some}
+use Rattle.std.specs.List.{prefix_len}
+use lib.ListN.{length, take, drop}
 use lib.Dec.{eqb}
-use borrow.Author.Tests.{eq-eqb, ne_eqb, lt-ltb, le-ltb}
+use borrow.Author.Tests.{lt-ltb, le-ltb}
 use Rattle.octets.specs.Bytes.{pick, byte_at, part, stands}
 use Rattle.octets.specs.Text.{bytes}
-use Rattle.octets.proofs.Scans.{scan-ge}
+use Rattle.octets.specs.Scan.{scan}
+use Rattle.octets.proofs.Parts.{tail_step}
+use Rattle.octets.proofs.Scans.{scan-ge, by-stop, by-more}
 use Rattle.pieces.proofs.Goes.{name-goes}
 use Rattle.pieces.specs.Walk.{walk_at}
 use Rattle.pieces.specs.Pieces.{name_at}
@@ -22,6 +27,7 @@ use Rattle.markup.specs.Tree.{Tag, Forest, nil, elem, One, one, none, Held, held
 use Rattle.markup.specs.Document.{misc_at, ended, rooted}
 use Rattle.reads.specs.WorkingLeaves.{nothing_read}
 use Rattle.reads.specs.Names.{inside}
+use Rattle.reads.specs.declared.Alert.{Alert}
 use Rattle.reads.specs.declared.State.{State}
 use Rattle.reads.specs.declared.Context.{Context}
 use Rattle.gather.specs.WorkingVisit.{touch_in, left, visit, got_one}
@@ -29,7 +35,7 @@ use Rattle.gather.specs.WorkingRead.{alert_of}
 use Rattle.gather.specs.declared.Gathered.{Gathered}
 use Rattle.gather.proofs.Gathers.{gathers}
 use Rattle.message.specs.Root.{before_colon, colon_at, prefix_of, xmlns_of, root_with, root_ok}
-use Rattle.message.specs.WorkingMessage.{refused_as, judged, judged_root, root_context, of_root}
+use Rattle.message.specs.WorkingMessage.{refused_as, judged, alert_judged, judged_root, root_context, of_root}
 
 -- the pass over an accepted root gathers what is read in it
 root-gathers : (s p : List ℕ) (g : Tag) (kids : Forest) → (visit s p (root_context true) (nothing_read (length s)) (elem g kids nil)).alert ≡ alert_of s p kids
@@ -69,20 +75,17 @@ module _ (s p : List ℕ) (ok : Bool) (o : One) (r : Gathered) (got : r ≡ got_
     unfolding judged_root rooted ended
     pass-unended m = by-root (λ g kids u. rw (u, m))
 
-    module _ (k : ℕ) (m : misc_at s j ≡ Some k) where
-      pub pass-more : (k ≡ length s → ⊥) → refused_as (length s) 5 ≡ judged_root s p ok (rooted s o)
-      unfolding judged_root rooted ended
-      pass-more h = by-root (λ g kids u. rw (u, m, ne_eqb k (length s) h))
-
-      pub pass-other : k ≡ length s → ok ≡ false → refused_as (length s) 6 ≡ judged_root s p ok (rooted s o)
-      unfolding judged_root rooted ended
-      pass-other h b = by-root (λ g kids u. rw (u, m, eq-eqb k (length s) h, b))
-
-      pub pass-is : k ≡ length s → ok ≡ true → judged s r.state.alert ≡ judged_root s p ok (rooted s o)
-      unfolding judged_root rooted ended got_one
-      pass-is h b = by-root (λ g kids u.
-          let e : r.state.alert ≡ alert_of s p kids = ap (λ (x : Gathered). x.state.alert) got ∙ rw (u, b) (root-gathers s p g kids) in
-          ap (judged s) e ∙ rw (u, m, eq-eqb k (length s) h, b))
+    pub pass-is : (k : ℕ) → misc_at s j ≡ Some k → alert_judged s ok (then_some (eqb k (length s)) r.state.alert) ≡ judged_root s p ok (rooted s o)
+    unfolding judged_root rooted ended got_one
+    pass-is k m = by-root (λ g kids u.
+        let e : ok ≡ true → r.state.alert ≡ alert_of s p kids = λ b. ap (λ (x : Gathered). x.state.alert) got ∙ rw (u, b) (root-gathers s p g kids) in
+        rw (u, m) (go (eqb k (length s)) ok _ g kids e))
+      where
+        -- an alert that is gathered in a root that is accepted is its own
+        go : (c b : Bool) (x : Alert) (g : Tag) (kids : Forest) → (b ≡ true → x ≡ alert_of s p kids) → alert_judged s b (then_some c x) ≡ judged_root s p b (pick c (one g kids j) none)
+        go true true x g kids e = ap (judged s) (e refl)
+        go true false x g kids e = refl
+        go false b x g kids e = refl
 
 -- ---- the root's tag
 
@@ -188,10 +191,47 @@ module _ (s : List ℕ) (i a c : ℕ) (colon : c ≡ colon_at s i a) where
   root-unprefixed h = rw (sym colon, le-ltb c a h)
 
   -- it stands in the name or at its end
-  pub colon-from : i ≤ c
+  pub colon_from : i ≤ c
   unfolding colon_at
-  colon-from = rw colon (scan-ge (before_colon s a) (length s) i)
+  colon_from = rw colon (scan-ge (before_colon s a) (length s) i)
 
 -- a name ends behind where it begins, inside the message
 pub name-ends : (s : List ℕ) (i a : ℕ) → name_at s i ≡ Some a → (i ≤ a) × (a ≤ length s)
 name-ends s i a e = let g = name-goes s i a e in let g0 = g.on in (omega arith, g.in-it)
+
+-- what is asked of the name of a root that begins at i, and of where a colon stands in it
+pub root_ends : (s : List ℕ) (i a : ℕ) {o : Option ℕ} → o ≡ name_at s (i + 1) → o ≡ Some a → (i + 1 ≤ a) × (a ≤ length s)
+root_ends s i a e is = name-ends s (i + 1) a (sym e ∙ is)
+
+-- ---- where the colon stands
+
+module _ (s : List ℕ) (a : ℕ) where
+  -- what stands from i to a, before a colon
+  abbrev pub before : ℕ → ℕ
+  before i = prefix_len (λ b. not (eqb b 58)) (part s i (a - i))
+
+  nothing-before : (i : ℕ) → a ≤ i → before i ≡ 0
+  nothing-before i h = let z : a - i ≡ 0 = omega arith in ap (λ (n : ℕ). prefix_len (λ b. not (eqb b 58)) (take n (drop i s))) z
+
+  before-step : (i : ℕ) → i < a → a ≤ length s → before i ≡ cond (not (eqb (byte_at s i) 58)) (1 + before (i + 1)) 0
+  before-step i k l =
+      let n : a - i ≡ suc (a - (i + 1)) = omega arith in
+      ap₂ (λ (n : ℕ) (t : List ℕ). prefix_len (λ b. not (eqb b 58)) (take n t)) n (tail_step s i (omega arith))
+
+  scanned : (n i : ℕ) → a ≤ length s → i ≤ a → a ≤ i + n → scan (before_colon s a) n i ≡ i + before i
+  unfolding before_colon
+  scanned zero i l h r = by-stop (λ j. 1) (before_colon s a) 0 i (rw (le-ltb i a (omega arith))) ∙ omega (arith, nothing-before i (omega arith))
+  scanned (suc n) i l h r = go (dec_lt i a) (λ k. scanned n (i + 1) l (omega (arith, k)) (omega (arith, r)))
+    where
+      go : Dec (i < a) → (i < a → scan (before_colon s a) n (i + 1) ≡ i + 1 + before (i + 1)) → scan (before_colon s a) (suc n) i ≡ i + before i
+      go (no k) m = by-stop (λ j. 1) (before_colon s a) (suc n) i (rw (le-ltb i a (omega arith))) ∙ omega (arith, nothing-before i (omega arith))
+      go (yes k) m = turn (eqb (byte_at s i) 58) refl (before-step i k l)
+        where
+          turn : (b : Bool) → eqb (byte_at s i) 58 ≡ b → before i ≡ cond (not b) (1 + before (i + 1)) 0 → scan (before_colon s a) (suc n) i ≡ i + before i
+          turn true e q = by-stop (λ j. 1) (before_colon s a) (suc n) i (rw (lt-ltb i a k, e)) ∙ omega (arith, q)
+          turn false e q = by-more (λ j. 1) (before_colon s a) n i (rw (lt-ltb i a k, e)) ∙ m k ∙ omega (arith, q)
+
+  -- the colon stands behind what has none
+  pub colon_is : (i : ℕ) → i ≤ a → a ≤ length s → colon_at s i a ≡ i + before i
+  unfolding colon_at
+  colon_is i h l = scanned (length s) i l h (omega arith)

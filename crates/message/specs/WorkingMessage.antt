@@ -1,5 +1,5 @@
 -- A message as document 01 reads and judges it, up to number 9.
-use Rattle.std.specs.Prelude.{ℕ, ◌+◌, Bool, true, false, List, length}
+use Rattle.std.specs.Prelude.{ℕ, ◌+◌, Bool, true, false, Option, Some, None, List, length}
 use Rattle.octets.specs.Bytes.{pick, between}
 use Rattle.clock.specs.Time.{instant_in}
 use Rattle.markup.specs.Tree.{One, one, none}
@@ -28,6 +28,11 @@ judged s a = record {
   sent = instant_in (timed s (sent_leaf a));
   alert = a;
 }
+
+-- what is judged by the alert in a root that is accepted or not: 5 where there is none
+abbrev pub alert_judged : List ℕ → Bool → Option Alert → Message
+alert_judged s ok None = refused_as (length s) 5
+alert_judged s ok (Some a) = pick ok (judged s a) (refused_as (length s) 6)
 
 -- 5 not of the subset; 6 root
 unfoldable pub judged_root : List ℕ → List ℕ → Bool → One → Message

@@ -8,8 +8,8 @@ ghost use Rattle.faults.specs.WorkingField.{lowest};
 ghost use Rattle.markup.specs.Tree.{elem_at};
 ghost use Rattle.markup.specs.Document.{rooted, doc_at};
 ghost use Rattle.message.specs.Root.{colon_at, root_with};
-ghost use Rattle.message.specs.WorkingJudged.{place_in, identified, timed, place_among, typed, is_unknown, info_ok, faults_with, number_with};
-ghost use Rattle.message.specs.WorkingMessage.{refused_as, judged, judged_root, root_context, of_root, message_says};
+ghost use Rattle.message.specs.WorkingJudged.{place_in, identified, timed, place_among, typed, info_ok, faults_with, number_with};
+ghost use Rattle.message.specs.WorkingMessage.{refused_as, judged, alert_judged, judged_root, root_context, of_root, message_says};
 
 use faults::Faults;
 use fields::{MsgType, Scope, Status};
@@ -43,19 +43,17 @@ pub fn refused(n: usize, number: u32) -> Message
 // ---- leaves
 
 // Where the value of a leaf begins that is the only one of its name.
+#[tactic(auto, unfolding(crate::specs::WorkingJudged::place_in))]
 fn place_of(l: Leaf) -> Option<usize>
     ensures { result ≡ place_in l }
 {
-    if reads::is_only(l) { Some(l.at) } else { None }
+    reads::is_only(l).then_some(l.at)
 }
 
 fn is_identified(s: &[u8], l: Leaf) -> bool
     ensures { result ≡ identified s.now l }
 {
-    match place_of(l) {
-        Some(at) => fields::identity_at(s, at),
-        None => false,
-    }
+    place_of(l).is_some_and(|at| fields::identity_at(s, at))
 }
 
 fn time_of(s: &[u8], l: Leaf) -> Option<u32>
@@ -73,10 +71,7 @@ fn status_of(s: &[u8], l: Leaf) -> Option<Status>
 fn msg_type_of(s: &[u8], l: Leaf) -> MsgType
     ensures { result ≡ typed s.now l }
 {
-    match place_of(l) {
-        Some(at) => fields::msg_type_at(s, at),
-        None => MsgType::Unknown,
-    }
+    place_of(l).map_or(MsgType::Unknown, |at| fields::msg_type_at(s, at))
 }
 
 fn scope_of(s: &[u8], l: Leaf) -> Option<Scope>
@@ -104,12 +99,6 @@ fn is_info_sound(i: Info) -> bool
 
 // ---- the judgement
 
-fn is_unknown(t: MsgType) -> bool
-    ensures { result ≡ is_unknown t }
-{
-    matches!(t, MsgType::Unknown)
-}
-
 fn field_with(
     s: &[u8],
     a: Alert,
@@ -125,7 +114,7 @@ fn field_with(
         sender: !is_identified(s, a.leaf[reads::SENDER]),
         sent: sent.is_none(),
         status: status.is_none(),
-        msg_type: is_unknown(msg_type),
+        msg_type: msg_type == MsgType::Unknown,
         scope: scope.is_none(),
         other: a.fault || !is_info_sound(a.info),
     }
@@ -138,12 +127,9 @@ fn number_with(field: u32, status: Option<Status>, scope: Option<Scope>, msg_typ
     if field != 0 {
         return 7;
     }
-    let Some(Status::Actual) = status else {
+    if status != Some(Status::Actual) || scope != Some(Scope::Public) {
         return 8;
-    };
-    let Some(Scope::Public) = scope else {
-        return 8;
-    };
+    }
     match msg_type {
         MsgType::Ack | MsgType::Error => 9,
         _ => 0,
@@ -169,17 +155,12 @@ fn judge(s: &[u8], a: Alert) -> Message
 
 // ---- the root
 
-// Where the colon of the name from `from` to `to` stands; its end where there is none, as `colon_at` has it. By places, as one is what is asked.
+// Where the colon of the name from `from` to `to` stands; its end where there is none, as `colon_at` says, for there the name before it ends too.
 fn colon(s: &[u8], from: usize, to: usize) -> usize
     requires { (from ≤ to) × (to ≤ length s.now) }
     ensures { result ≡ colon_at s.now from to }
 {
-    for i in from..to {
-        if s[i] == b':' {
-            return i;
-        }
-    }
-    to
+    from + s[from..to].iter().take_while(|b| **b != b':').count()
 }
 
 // Whether the root whose name stands from `from` to `to` is an alert of the prefix p, with the namespace as its attribute of the name `lead` and `rest`.
@@ -191,31 +172,33 @@ fn is_root(s: &[u8], p: &[u8], lead: &[u8], rest: &[u8], from: usize, to: usize)
     if !octets::equal(&s[at..to], b"alert") {
         return false;
     }
-    match tags::find(s, lead, rest, to, s.len()) {
-        Some(q) => tags::value_is(s, q, b"urn:oasis:names:tc:emergency:cap:1.2"),
-        None => false,
-    }
+    tags::find(s, lead, rest, to, s.len()).is_some_and(|q| tags::value_is(
+        s,
+        q,
+        b"urn:oasis:names:tc:emergency:cap:1.2",
+    ))
 }
 
-// The pass over the root at i under the prefix p, which is an accepted root or not, and over what follows it.
+// What is gathered in the root at i under the prefix p, which is accepted or not; None where the root has no end, or more than misc follows it.
+fn alert_at(s: &[u8], p: &[u8], i: usize, ok: bool) -> Option<Alert>
+    ensures { alert_judged s.now ok result ≡ judged_root s.now p.now ok (rooted s.now (elem_at s.now 12 i)) }
+{
+    let g = gather::element(s, p, i, 12, root_context(ok));
+    let k = markup::misc(s, g.end?)?;
+    (k == s.len()).then_some(g.state.alert)
+}
+
+// The message whose root at i has the prefix p, and is accepted or not.
 fn pass(s: &[u8], p: &[u8], i: usize, ok: bool) -> Message
     ensures { result ≡ judged_root s.now p.now ok (rooted s.now (elem_at s.now 12 i)) }
 {
-    let n = s.len();
-    let g = gather::element(s, p, i, 12, root_context(ok));
-    let Some(j) = g.end else {
-        return refused(n, 5);
+    let Some(alert) = alert_at(s, p, i, ok) else {
+        return refused(s.len(), 5);
     };
-    let Some(k) = markup::misc(s, j) else {
-        return refused(n, 5);
-    };
-    if k != n {
-        return refused(n, 5);
-    }
     if !ok {
-        return refused(n, 6);
+        return refused(s.len(), 6);
     }
-    judge(s, g.state.alert)
+    judge(s, alert)
 }
 
 // What is in a root that is not accepted is skipped.
@@ -226,6 +209,7 @@ fn root_context(ok: bool) -> Context
 }
 
 // The message whose root begins at i.
+#[tactic(auto, using(crate::proofs::Roots::root_ends, crate::proofs::Roots::colon_from))]
 fn read_root(s: &[u8], i: usize) -> Message
     requires { i ≤ length s.now }
     ensures { result ≡ of_root s.now (rooted s.now (elem_at s.now 12 i)) }
@@ -241,9 +225,8 @@ fn read_root(s: &[u8], i: usize) -> Message
         let ok = is_root(s, p, b"xmlns:", &s[from..c], from, to);
         return pass(s, p, i, ok);
     }
-    let none = &s[from..from];
-    let ok = is_root(s, none, b"xmlns", none, from, to);
-    pass(s, none, i, ok)
+    let ok = is_root(s, b"", b"xmlns", b"", from, to);
+    pass(s, b"", i, ok)
 }
 
 // The same for any i: at the end of the message, or past it, no root begins.
@@ -273,12 +256,15 @@ fn read_forward(s: &[u8]) -> Message
     read_rest(Reader::new(s).lead())
 }
 
+// The length of the longest message.
+pub const LONGEST: usize = 32768;
+
 // Reads and judges a message.
 pub fn read(s: &[u8]) -> Message
     ensures { result ≡ message_says s.now }
 {
     match s.len() {
-        1..=32768 => read_forward(s),
+        1..=LONGEST => read_forward(s),
         n => refused(n, 4),
     }
 }

@@ -49,8 +49,7 @@ fn put_withdrawal(s: &[u8], at: usize, batch: &mut [u8], k: usize) -> Word
     let mut group = [0u8; 155];
     let w = fields::next_word(s, at, &mut group);
     let r = withdrawal_by(&group[..w.len]);
-    let bytes = r.bytes;
-    octets::put_bytes(batch, k * Record::SIZE, &bytes);
+    octets::put_bytes(batch, k * Record::SIZE, &r.bytes);
     w
 }
 
@@ -74,67 +73,77 @@ fn put_withdrawals(s: &[u8], at: usize, batch: &mut [u8], n: usize) -> usize
     }
 }
 
-// ---- the notice
+// ---- a message that answers 0
 
-// The notice of a message that is not quiet.
-fn notice_by(s: &[u8], j: Judged) -> Record
-    requires { (j ≡ judged_of s.now) × (j.number ≡ 0) × (j.quiet ≡ false) }
-    ensures { result.bytes ≡ notice (own_in s.now j.message) (zero_filled_header j) }
-{
-    let a = j.message.alert;
-    let mut by = [0u8; 64];
-    values::copy(s, a.leaf[reads::SENDER].at, 64, &mut by, 0);
-    let mut called = [0u8; 64];
-    values::copy(s, a.leaf[reads::IDENTIFIER].at, 64, &mut called, 0);
-    let mut head = [0u8; Record::FRONT];
-    header::put_body(&mut head, 0, j.body);
-    Record::notice(j.message.sent, &by, &called, &head)
+// A message and what is judged of it, where that is 0.
+#[derive(Drop)]
+struct Passed<'a> {
+    s: &'a [u8],
+    judged: Judged,
+    ghost own: { judged ≡ judged_of s.now },
+    ghost zero: { judged.number ≡ 0 },
 }
 
-// Puts the notice, unless the message is quiet, and says how many records there are then.
-fn put_notice(s: &[u8], j: Judged, batch: &mut [u8]) -> usize
-    requires { (j ≡ judged_of s.now) × (j.number ≡ 0) × (17 * 384 ≤ length batch.old) }
-    ensures value { result ≡ length (alert_by s.now j).carries }
-    ensures batch_after { batch.new ≡ sets batch.old 0 (flat (map (notice (own_in s.now j.message)) (alert_by s.now j).carries)) }
-{
-    if j.quiet {
-        return 0;
+impl Passed<'_> {
+    // The notice of a message that is not quiet.
+    fn notice(&self) -> Record
+        requires { self.now.judged.quiet ≡ false }
+        ensures { result.bytes ≡ notice (own_in self.now.s.now self.now.judged.message) (zero_filled_header self.now.judged) }
+    {
+        let message = self.judged.message;
+        let leaf = message.alert.leaf;
+        let mut sender = [0u8; 64];
+        values::copy(self.s, leaf[reads::SENDER].at, 64, &mut sender, 0);
+        let mut identifier = [0u8; 64];
+        values::copy(self.s, leaf[reads::IDENTIFIER].at, 64, &mut identifier, 0);
+        let mut head = [0u8; Record::FRONT];
+        header::put_body(&mut head, 0, self.judged.body);
+        Record::notice(message.sent, &sender, &identifier, &head)
     }
-    octets::put_bytes(batch, 0, &notice_by(s, j).bytes);
-    1
-}
 
-// ---- the records of a message
-
-// Puts the records of a message that answers 0, and says how many there are.
-fn put_records(s: &[u8], j: Judged, batch: &mut [u8]) -> usize
-    requires { (j ≡ judged_of s.now) × (j.number ≡ 0) × (17 * 384 ≤ length batch.old) }
-    ensures value { result ≡ length (records (alert_by s.now j)) }
-    ensures batch_after { batch.new ≡ sets batch.old 0 (flat (records (alert_by s.now j))) }
-{
-    let n = put_notice(s, j, batch);
-    if !judgement::asks_references(j.message.msg_type) {
-        return n;
+    // Puts the notice, unless the message is quiet, and says how many records there are then.
+    fn put_notice(&self, batch: &mut [u8]) -> usize
+        requires { 17 * 384 ≤ length batch.old }
+        ensures value { result ≡ length (alert_by self.now.s.now self.now.judged).carries }
+        ensures batch_after { batch.new ≡ sets batch.old 0 (flat (map (notice (own_in self.now.s.now self.now.judged.message)) (alert_by self.now.s.now self.now.judged).carries)) }
+    {
+        if self.judged.quiet {
+            return 0;
+        }
+        octets::put_bytes(batch, 0, &self.notice().bytes);
+        1
     }
-    put_withdrawals(s, j.message.alert.leaf[reads::REFERENCES].at, batch, n)
+
+    // Puts its records, and says how many there are.
+    fn put_records(&self, batch: &mut [u8]) -> usize
+        requires { 17 * 384 ≤ length batch.old }
+        ensures value { result ≡ length (records (alert_by self.now.s.now self.now.judged)) }
+        ensures batch_after { batch.new ≡ sets batch.old 0 (flat (records (alert_by self.now.s.now self.now.judged))) }
+    {
+        let n = self.put_notice(batch);
+        let message = self.judged.message;
+        if !judgement::asks_references(message.msg_type) {
+            return n;
+        }
+        put_withdrawals(self.s, message.alert.leaf[reads::REFERENCES].at, batch, n)
+    }
 }
 
 // ---- the call
 
 // Offers a message that answers 0.
-fn offer_records(s: &mut [u8], message: &[u8], j: Judged) -> Offered
-    requires { (j ≡ judged_of message.now) × (j.number ≡ 0) }
-    ensures value { result ≡ (message_offer s.old message.now).answer }
-    ensures s_after { s.new ≡ (message_offer s.old message.now).bytes }
+fn offer_records(s: &mut [u8], passed: &Passed<'_>) -> Offered
+    ensures value { result ≡ (message_offer s.old passed.now.s.now).answer }
+    ensures s_after { s.new ≡ (message_offer s.old passed.now.s.now).bytes }
     ensures number_bound { (result.number ≤ 17) × (result.field ≤ 7) × (result.added ≤ 170) }
 {
     let mut batch = [0u8; 17 * Record::SIZE];
-    let m = put_records(message, j, &mut batch);
-    let a = board::offer_records(s, &batch, m);
+    let n = passed.put_records(&mut batch);
+    let offered = board::offer_records(s, &batch, n);
     Offered {
-        number: a.number,
+        number: offered.number,
         field: 0,
-        added: a.added,
+        added: offered.added,
     }
 }
 
@@ -144,9 +153,9 @@ pub fn offer(s: &mut [u8], message: &[u8]) -> Offered
     ensures s_after { s.new ≡ (message_offer s.old message.now).bytes }
     ensures number_bound { (result.number ≤ 17) × (result.field ≤ 7) × (result.added ≤ 170) }
 {
-    let j = judgement::judge(message);
-    if j.number == 0 {
-        return offer_records(s, message, j);
+    let judged = judgement::judge(message);
+    if judged.number == 0 {
+        return offer_records(s, &Passed { s: message, judged });
     }
     if !board::is_board(s) {
         return Offered {
@@ -156,8 +165,8 @@ pub fn offer(s: &mut [u8], message: &[u8]) -> Offered
         };
     }
     Offered {
-        number: j.number,
-        field: j.field,
+        number: judged.number,
+        field: judged.field,
         added: 0,
     }
 }

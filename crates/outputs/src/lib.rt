@@ -8,6 +8,11 @@ ghost use Rattle.outputs.specs.WorkingOutputs.{roomy_text, uri_in, UriFits, text
 
 use reads::Audio;
 
+// The room that every text fits, and the room that every uri fits.
+pub const TEXT: usize = 7200;
+
+pub const URI: usize = 1024;
+
 // What a call answers that gives text and audio: the number and the field; audio (0 none, 1 mp3, 2 wav, 3 stream); how long uri
 // and text are. The numbers are those that C is answered, and a refusal has zeros elsewhere: `text_answer_of` promises both.
 #[derive(Drop)]
@@ -23,7 +28,7 @@ pub struct TextAudio {
 pub fn is_roomy(text: usize, uri: usize) -> bool
     ensures { result ≡ roomy_text text uri }
 {
-    7200 <= text && 1024 <= uri
+    TEXT <= text && URI <= uri
 }
 
 // Puts the uri of the audio choice at the start of `out`, and says how long it is.
@@ -36,7 +41,7 @@ pub fn put_uri(s: &[u8], a: Audio, out: &mut [u8]) -> usize
     if a.number == 0 {
         return 0;
     }
-    values::copy(s, a.uri, 1024, out, 0)
+    values::copy(s, a.uri, URI, out, 0)
 }
 
 // An answer with nothing written.

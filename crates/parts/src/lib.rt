@@ -16,7 +16,9 @@ pub enum Originator {
     Civ,
 }
 
-// The header through the dash after JJJHHMM; `locations` has zeros behind `count`, and `period` is in minutes.
+// The header through the dash after JJJHHMM; `locations` has zeros behind `count`, and `period` is in minutes. An array and a count, no Vec:
+// nothing allocates, and `locations_ok`, `body_ok` and `body_bytes` are said of the two. Day, hour and minute are fields of their own: `body_ok`
+// and `body_bytes` take each.
 #[derive(Clone, Copy)]
 pub struct Body {
     pub originator: Originator,
@@ -176,7 +178,8 @@ pub fn no_body() -> Body
     }
 }
 
-// Locations of six digits each, one behind the other, with zeros behind them; the first that is none refuses them all.
+// Locations of six digits each, one behind the other, with zeros behind them. By index: a proof knows nothing of what is written through an
+// iterator.
 fn asked_locations(s: &[u8]) -> Option<[u32; 31]>
     ensures { result ≡ sixes_read s.now }
 {

@@ -1,4 +1,5 @@
-// The pieces of a message: names, comments, references, runs of text, and what stands next in an element.
+// The pieces of a message: names, comments, references, runs of text, and what stands next in an element. A message and a place stand side by side in each
+// function: the definitions take them so, and a struct of both would be taken apart in each.
 #![tactic(auto)]
 
 ghost use Rattle.std.specs.Prelude.{◌≡◌, ℕ, Bool, true, Option, None, ◌+◌, ◌≤◌, length};
@@ -106,7 +107,8 @@ fn past<F: Fn(u8) -> bool>(s: &[u8], at: usize, test: F) -> usize
     i
 }
 
-// Goes on from `at` by what `width` answers, up to a place where that is 0. By places, and no iterator: how far each step goes is told by the step.
+// Goes on from `at` by what `width` answers, up to a place where that is 0. By places, and no iterator: how far each step goes is told by the step. A width and no
+// Option: `Widths` has 0 where the test fails, and no character is 0 bytes wide.
 pub fn through<F: Fn(usize) -> usize>(s: &[u8], at: usize, width: F) -> usize
     requires callable { F.IsAlwaysCallable width }
     requires inside { Inside s.now (F.post width) }
@@ -145,7 +147,7 @@ fn at_most_64(at: usize, e: usize) -> Option<usize>
     requires { at ≤ e }
     ensures { result ≡ short at e }
 {
-    if e - at <= 64 { Some(e) } else { None }
+    (e - at <= 64).then_some(e)
 }
 
 pub fn name(s: &[u8], at: usize) -> Option<usize>
@@ -199,13 +201,13 @@ pub fn note(s: &[u8], at: usize) -> Option<usize>
 
 // ---- references
 
-// The character b, if the reference w to it stands at `at`, and where that ends.
-fn entity(s: &[u8], at: usize, w: &[u8], b: u8) -> Option<(u32, usize)>
-    requires { 1 ≤ length w.now }
-    ensures { result ≡ entity w.now b s.now at None }
+// The character, if the reference `word` to it stands at `at`, and where that ends.
+fn entity(s: &[u8], at: usize, word: &[u8], character: u8) -> Option<(u32, usize)>
+    requires { 1 ≤ length word.now }
+    ensures { result ≡ entity word.now character s.now at None }
 {
-    if octets::stands_at(s, at, w) {
-        Some((u32::from(b), at + w.len()))
+    if octets::stands_at(s, at, word) {
+        Some((u32::from(character), at + word.len()))
     } else {
         None
     }
@@ -254,11 +256,7 @@ fn number_reference(s: &[u8], at: usize, base: u8) -> Option<(u32, usize)>
         return None;
     }
     let v = numeral(&s[at..e], base);
-    if characters::is_legal(v) {
-        Some((v, e + 1))
-    } else {
-        None
-    }
+    characters::is_legal(v).then_some((v, e + 1))
 }
 
 pub fn reference(s: &[u8], at: usize) -> Option<(u32, usize)>
@@ -333,30 +331,11 @@ fn stirs(b: u8) -> u8
     if octets::equals(b, b'\n') == 0 { x } else { 0 }
 }
 
-// Whether the sixteen bytes from `at` are of a run of text; some that are may be missed. The test of a byte has no branch, so that a compiler can make it for
-// all of them at once. (The blocks of crate calm are not these: each of their bytes is told with the byte behind it.)
-fn is_block(s: &[u8], at: usize) -> bool
-    requires { at + 16 ≤ length s.now }
-    ensures { result ≡ true → Runs s.now at 16 }
-{
-    let mut n = 0;
-    for k in 0..16 {
-        n += stirs(s[at + k]);
-    }
-    n == 0
-}
-
 // How many bytes from `at` on stand in blocks of a run.
 fn blocks(s: &[u8], at: usize) -> usize
     ensures { Runs s.now at result }
 {
-    let whole = s.len().saturating_sub(at) / 16;
-    for k in 0..whole {
-        if !is_block(s, at + 16 * k) {
-            return 16 * k;
-        }
-    }
-    16 * whole
+    octets::blocks(s.len().saturating_sub(at), |k| stirs(s[at + k]))
 }
 
 // White space before a tag is told by itself: nothing else stands between most elements. The loop goes by places, with no iterator: how far a turn goes is told
@@ -385,10 +364,7 @@ fn next_tag(s: &[u8], at: usize) -> Piece
 {
     match octets::byte(s, at + 1) {
         b'/' => Piece::Close,
-        b'!' => match note(s, at) {
-            Some(j) => Piece::Note(j),
-            None => Piece::Bad,
-        },
+        b'!' => note(s, at).map_or(Piece::Bad, |j| Piece::Note(j)),
         _ => Piece::Child,
     }
 }
@@ -398,10 +374,7 @@ pub fn next_piece(s: &[u8], at: usize) -> Piece
 {
     match octets::byte(s, at) {
         b'<' => next_tag(s, at),
-        b'&' => match reference(s, at) {
-            Some((_, j)) => Piece::Text(j),
-            None => Piece::Bad,
-        },
+        b'&' => reference(s, at).map_or(Piece::Bad, |(_, j)| Piece::Text(j)),
         _ => {
             let e = run(s, at);
             if e == at { Piece::Bad } else { Piece::Text(e) }

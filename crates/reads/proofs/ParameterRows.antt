@@ -3,7 +3,7 @@
 --     own_row, no-row-of-it     where a parameter is of one row at most, its own leaf alone changes
 --     row-within                a row is one of the table's
 --     exact-row, behind-exact   a row of an exact name is told by the name's place among them, one behind these by what stands there
---     broadcast-row             the last row by its test
+--     row_is                    the row by both
 --     apart                     a parameter that is read is of one row at most
 use Prim.Native.Nat.{ℕ, zero, suc, ◌<◌}
 use Prim.Native.String.{String}
@@ -13,6 +13,8 @@ use mathlib.Core.List.{List, [], ◌∷◌, ◌++◌, map}
 use native.Mathlib.Omega.{arith}
 use lib.ListN.{length, get_or, set}
 use Rattle.std.specs.Prelude.{Option, Some, None, option_map}
+use Rattle.std.specs.Bool.{then_some}
+use Rattle.std.specs.Option.{MatchOption}
 use Rattle.octets.specs.Bytes.{pick, every, same, between, is_capital}
 use Rattle.octets.specs.Text.{bytes}
 use Rattle.octets.proofs.Sames.{same-is}
@@ -139,14 +141,16 @@ module _ (w v : List ℕ) where
 abbrev pub exact_names : List String
 exact_names = "EAS-ORG" ∷ "EASText" ∷ "EAS-Must-Carry" ∷ []
 
--- a name that is none of the exact ones is told by the last row
-pub broadcast-row : (w v : List ℕ) (b : Bool) → which_of (map bytes exact_names) w ≡ None → is_of broadcast_text w v ≡ b → parameter_row read_parameters w v ≡ pick b (Some 3) None
+-- by the place among the exact names, or else by the last row's test
+pub row_is : (w v : List ℕ) (o r : Option ℕ) → MatchOption o (r ≡ then_some {T = ℕ} (is_of broadcast_text w v) 3) (λ k. r ≡ Some k) → o ≡ which_of (map bytes exact_names) w
+    → r ≡ parameter_row read_parameters w v
 unfolding parameter_row
-broadcast-row w v b e q = behind-exact w v exact_names (broadcast_text ∷ []) e ∙ rw q (go b)
+row_is w v (Some k) r h e = h ∙ sym (exact-row w v exact_names (broadcast_text ∷ []) k (sym e))
+row_is w v None r h e = h ∙ last (is_of broadcast_text w v) ∙ sym (behind-exact w v exact_names (broadcast_text ∷ []) (sym e))
   where
-    go : (b : Bool) → behind 3 (pick b (Some 0) None) ≡ pick b (Some 3) None
-    go true = refl
-    go false = refl
+    last : (b : Bool) → then_some {T = ℕ} b 3 ≡ behind 3 (pick b (Some 0) None)
+    last true = refl
+    last false = refl
 
 -- one of exactly this name is of no row that has another
 others : (x : List ℕ) (rows : List ReadParameter) (w v : List ℕ) → parameter_row rows x v ≡ None → same w x ≡ true → parameter_row rows w v ≡ None

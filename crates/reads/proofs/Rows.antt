@@ -2,14 +2,15 @@
 use Prim.Native.Nat.{ℕ}
 use mathlib.Core.Path.{◌≡◌, refl, ap, ◌∙◌}
 use mathlib.Core.List.{List, [], ◌∷◌, map}
-use lib.ListN.{get_or}
-use Rattle.std.specs.Prelude.{Option}
+use lib.ListN.{length, get_or}
+use Rattle.std.specs.Prelude.{Option, Some, None}
+use Rattle.std.specs.Option.{option_map_or}
 use Rattle.octets.specs.Bytes.{pick, same}
 use Rattle.octets.specs.Text.{bytes}
 use Rattle.words.specs.WorkingWords.{which_of}
-use Rattle.words.proofs.Choices.{choice, answer, chosen}
+use Rattle.words.proofs.Choices.{choice, answer, chosen, tab, alike, place-within}
 use Rattle.reads.specs.declared.Context.{Context}
-use Rattle.reads.specs.declared.Context.TheVariants.{Skipped}
+use Rattle.reads.specs.declared.Context.TheVariants.{PairLeaf, Skipped}
 use Rattle.reads.specs.Names.{ReadElement, among}
 
 abbrev pub insides : List ReadElement → List Context
@@ -29,3 +30,12 @@ among-is (r ∷ rs) w = ap (pick (same w (bytes r.name)) r.inside) (among-is rs 
 -- by the place of the name among those of the rows; where it is none of them, the element is skipped
 pub read-inside : (rows : List ReadElement) (w : List ℕ) {o : Option ℕ} → o ≡ which_of (read_names rows) w → answer Skipped (insides rows) o ≡ among rows w
 read-inside rows w h = chosen Skipped (read_names rows) (insides rows) w h ∙ among-is rows w
+
+-- where the rows are the leaves of a pair
+pub leaf-inside : (rows : List ReadElement) → tab (length rows) PairLeaf ≡ tab (length rows) (inside_at rows) → length (read_names rows) ≡ length rows → (w : List ℕ)
+    → option_map_or PairLeaf (which_of (read_names rows) w) Skipped ≡ among rows w
+leaf-inside rows same long w = go (which_of (read_names rows) w) refl
+  where
+    go : (o : Option ℕ) → o ≡ which_of (read_names rows) w → option_map_or PairLeaf o Skipped ≡ among rows w
+    go None e = read-inside rows w e
+    go (Some k) e = alike PairLeaf (inside_at rows) (length rows) same k (rw long at (place-within (read_names rows) w e)) ∙ read-inside rows w e

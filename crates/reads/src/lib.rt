@@ -3,12 +3,16 @@
 
 ghost use Rattle.std.specs.Prelude.{◌≡◌, ◌≤◌, length};
 ghost use Rattle.reads.specs.WorkingLeaves.{no_leaf, marked, found, sound_of, only_of, pair_ok, no_info, nothing_read};
+ghost use Rattle.std.specs.Option.{option_map_or};
 ghost use Rattle.values.specs.Value.{value_at};
+ghost use Rattle.words.specs.WorkingWords.{words_of, which_of};
+ghost use Rattle.reads.specs.declared.Context.TheVariants.{PairLeaf, Skipped};
 ghost use Rattle.reads.specs.WorkingParameters.{broadcast_text, read_parameters, is_of};
 ghost use Rattle.reads.specs.Names.{local_at, alert_context, info_context, later_context, pair_context, resource_context, area_context, context_of};
 ghost use Rattle.reads.specs.WorkingSteps.{event_step, parameter_row, with_location, audio_of, uri_ok, audio_step, english, is_nothing};
 
 // A leaf: where the value of the first begins, how often it stands (0, 1, and 2 for more), and whether one of them holds an element.
+// A count and no enum: `found`, `sound_of` and `only_of` count.
 #[derive(Clone, Copy)]
 pub struct Leaf {
     pub at: usize,
@@ -23,7 +27,7 @@ pub struct Events {
     pub fault: bool,
 }
 
-// The parameters that are read, by their places in the table of them, and how many there are.
+// The parameters that are read, by their places in the table of them; PARAMETERS is how many there are.
 pub const EAS_ORG: usize = 0;
 
 pub const EAS_TEXT: usize = 1;
@@ -52,7 +56,7 @@ pub struct Locations {
 }
 
 // The audio choice of the resources: where its uri begins, and its number; and whether a resource is at fault.
-// 0 is none: the number is the one that both calls answer, as `header-small` and `canadian-small` say it, also in C.
+// A number, and 0 for none: `audio_of` and `audio_step` say it, and `text_answer_of` hands it on as the call's answer.
 #[derive(Clone, Copy)]
 pub struct Audio {
     pub uri: usize,
@@ -60,7 +64,7 @@ pub struct Audio {
     pub fault: bool,
 }
 
-// The leaves of an info, by their places.
+// The leaves of an info, by their places. No enum: `in_info` gives a name its place, and `touched_at` touches the leaf there.
 pub const LANGUAGE: usize = 0;
 
 pub const EXPIRES: usize = 1;
@@ -81,7 +85,7 @@ pub struct Info {
     pub audio: Audio,
 }
 
-// The leaves of an alert, by their places.
+// The leaves of an alert, by their places, as `in_alert` has them.
 pub const IDENTIFIER: usize = 0;
 
 pub const SENDER: usize = 1;
@@ -241,7 +245,7 @@ pub fn is_pair(name: Leaf, value: Leaf) -> bool
 
 // ---- names
 
-// Where the name from `from` to `to` goes on behind the root's prefix p; its end where it does not carry it.
+// Where the name from `from` to `to` goes on behind the root's prefix p; its end where it does not carry it, so that the local name is empty (`local_at`).
 pub fn local(s: &[u8], p: &[u8], from: usize, to: usize) -> usize
     requires { (from ≤ to) × (to ≤ length s.now) }
     ensures { result ≡ local_at s.now p.now from to }
@@ -299,22 +303,24 @@ pub fn later_context(name: &[u8]) -> Context
     }
 }
 
+// The leaf of a pair whose name stands in a table of words; inlined, so that the table is unrolled.
+#[inline]
+fn pair_leaf(name: &[u8], lens: &[u8], text: &[u8]) -> Context
+    ensures { result ≡ option_map_or PairLeaf (which_of (words_of lens.now text.now) name.now) Skipped }
+{
+    words::which(name, lens, text).map_or(Context::Skipped, Context::PairLeaf)
+}
+
 pub fn pair_context(name: &[u8]) -> Context
     ensures { result ≡ pair_context name.now }
 {
-    match words::which(name, b"\x09\x05", b"valueNamevalue") {
-        Some(k) => Context::PairLeaf(k),
-        None => Context::Skipped,
-    }
+    pair_leaf(name, b"\x09\x05", b"valueNamevalue")
 }
 
 pub fn resource_context(name: &[u8]) -> Context
     ensures { result ≡ resource_context name.now }
 {
-    match words::which(name, b"\x08\x03", b"mimeTypeuri") {
-        Some(k) => Context::PairLeaf(k),
-        None => Context::Skipped,
-    }
+    pair_leaf(name, b"\x08\x03", b"mimeTypeuri")
 }
 
 #[tactic(auto, unfolding(crate::specs::Names::among, octets::specs::Text::bytes))]
@@ -370,11 +376,8 @@ pub fn event_step(s: &[u8], e: Events, name: Leaf, value: Leaf) -> Events
 pub fn parameter_row(s: &[u8], name: usize, value: usize) -> Option<usize>
     ensures { result ≡ parameter_row read_parameters (value_at s.now name) (value_at s.now value) }
 {
-    match words::which_value(s, name, b"\x07\x07\x0e", b"EAS-ORGEASTextEAS-Must-Carry") {
-        Some(k) => Some(k),
-        None if is_broadcast_text(s, name, value) => Some(BROADCAST_TEXT),
-        None => None,
-    }
+    let exact = words::which_value(s, name, b"\x07\x07\x0e", b"EAS-ORGEASTextEAS-Must-Carry");
+    exact.or_else(|| is_broadcast_text(s, name, value).then_some(BROADCAST_TEXT))
 }
 
 // The parameter whose name may have any letter case, and whose value may not be empty.
@@ -401,15 +404,13 @@ impl Locations {
 pub fn audio_of(s: &[u8], at: usize) -> u32
     ensures { result ≡ audio_of s.now at }
 {
-    match words::which_value(
+    words::which_value(
         s,
         at,
         b"\x17\x17\x21",
         b"audio/x-ipaws-audio-mp3audio/x-ipaws-audio-wavaudio/x-ipaws-streaming-audio-mp3",
-    ) {
-        Some(k) => k as u32 + 1,
-        None => 0,
-    }
+    )
+    .map_or(0, |k| k as u32 + 1)
 }
 
 #[tactic(auto, unfolding(crate::specs::WorkingSteps::audio_step))]

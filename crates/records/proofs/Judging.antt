@@ -1,9 +1,9 @@
 -- What the tests of a field and of a record answer, one after the other. n bytes of the field f stand before its first zero byte.
 --     value-bad, rest-decides          a zero-filled field
 --     body-none, body-some             what is read in one that is to be a header
---     header-not, stamp-decides        a header, zero-filled, whose JJJHHMM is that of sent
+--     stamp-told                       a header, zero-filled, whose JJJHHMM is that of sent
 --     third-decides, third-not-asked   three tests, asked one after the other
---     dated-not, year-out, day-decides a header with its year
+--     year-out, day-told               a header with its year
 use Prim.Native.Nat.{ℕ, ◌-◌, ◌≤◌, ◌<◌}
 use mathlib.Core.Bool.{Bool, true, false, ◌&&◌, true≢false}
 use mathlib.Core.List.{List, [], ◌∷◌}
@@ -13,7 +13,7 @@ use borrow.Author.Tests.{eqb-true, eq-eqb}
 use lib.Dec.{leb, eqb}
 use lib.ListN.{length, take, drop, length-drop}
 use lib.Seq.{take_all}
-use Rattle.std.specs.Prelude.{Some, None}
+use Rattle.std.specs.Prelude.{Option, Some, None}
 use Rattle.std.specs.Bool.{then_some}
 use Rattle.std.specs.Ordering.{is_le, nat_cmp}
 use Rattle.std.proofs.lemmas.Bool.Decides.{nat_tests}
@@ -96,16 +96,20 @@ module _ (f : List ℕ) where
 
   -- whose JJJHHMM is that of sent
   module _ (sent : ℕ) (low : sent < span) where
-    pub header-not : None ≡ body_in f → every holds (header_ok f ∷ same (stamp_in f) (stamped sent) ∷ []) ≡ false
+    header-not : None ≡ body_in f → every holds (header_ok f ∷ same (stamp_in f) (stamped sent) ∷ []) ≡ false
     header-not h = one-fails 0 (header_ok f ∷ same (stamp_in f) (stamped sent) ∷ []) (header-none h)
 
-    pub stamp-decides : (body : Body) → Some body ≡ body_in f → (t : Bool) → t ≡ every holds (on body sent) → t ≡ every holds (header_ok f ∷ same (stamp_in f) (stamped sent) ∷ [])
+    stamp-decides : (body : Body) → Some body ≡ body_in f → (t : Bool) → t ≡ every holds (on body sent) → t ≡ every holds (header_ok f ∷ same (stamp_in f) (stamped sent) ∷ [])
     unfolding stamp_in header_ok zero_filled
     stamp-decides body s t h =
         let d = header-some body s in
         let form = (each_of (filled_tests body_form f) d.0).0 in
         h ∙ ap (λ (b : Body). every holds (on b sent)) d.1 ∙ sym (stamp-is (filled_in f) sent form low)
         ∙ sym (last-decides (header_ok f ∷ []) (same (stamp_in f) (stamped sent)) (d.0, tt))
+
+    pub stamp-told : (o : Option Body) → o ≡ body_in f → (t : Bool) → (o ≡ None → t ≡ false) → ((body : Body) → o ≡ Some body → t ≡ every holds (on body sent)) → t ≡ every holds (header_ok f ∷ same (stamp_in f) (stamped sent) ∷ [])
+    stamp-told None is t none some = none refl ∙ sym (header-not is)
+    stamp-told (Some body) is t none some = stamp-decides body is t (some body refl)
 
 -- ---- tests asked one after the other, as `a && b && c` asks them: v is what the first two say
 
@@ -155,17 +159,21 @@ not-within lo hi y h =
     both-true a b h k = rw (h, k)
 
 module _ (g : List ℕ) where
-  pub dated-not : None ≡ body_in (header_of g) → false ≡ dated_ok g
+  dated-not : None ≡ body_in (header_of g) → false ≡ dated_ok g
   unfolding dated_ok
   dated-not h = sym (one-fails 0 (dated_tests g) (header-none (header_of g) h))
 
   module _ (y : ℕ) (e : y ≡ year_in g) where
-    pub day-decides : (body : Body) → Some body ≡ body_in (header_of g) → 2000 ≤ y → y ≤ 2099 → leb body.day (year_days y) ≡ dated_ok g
+    day-decides : (body : Body) → Some body ≡ body_in (header_of g) → 2000 ≤ y → y ≤ 2099 → leb body.day (year_days y) ≡ dated_ok g
     unfolding dated_ok
     day-decides body s lo hi =
         let d = header-some (header_of g) body s in
         (λ i. leb (d.1 i).day (year_days (e i)))
         ∙ sym (last-decides (header_ok (header_of g) ∷ between 2000 2099 (year_in g) ∷ []) (leb (body_of (filled_in (header_of g))).day (year_days (year_in g))) (d.0, (ap (between 2000 2099) (sym e) ∙ between_is 2000 2099 y lo hi, tt)))
+
+    pub day-told : (o : Option Body) → o ≡ body_in (header_of g) → 2000 ≤ y → y ≤ 2099 → (t : Bool) → (o ≡ None → t ≡ false) → ((body : Body) → o ≡ Some body → t ≡ leb body.day (year_days y)) → t ≡ dated_ok g
+    day-told None is lo hi t none some = none refl ∙ dated-not is
+    day-told (Some body) is lo hi t none some = some body refl ∙ day-decides body is lo hi
 
     pub year-out : between 2000 2099 y ≡ false → false ≡ dated_ok g
     unfolding dated_ok

@@ -73,7 +73,10 @@ module _ (v : List ℕ) (sent : ℕ) (ok : body_form v ≡ true) (inside : sent 
       )
 
   pub stamp-is : same (part (times_part v) 6 7) (stamped sent) ≡ every holds (on (body_of v) sent)
-  stamp-is = alike (same (part (times_part v) 6 7) (stamped sent)) (every holds (on (body_of v) sent)) (λ e. let t = stamp-told e in every_of (on (body_of v) sent) (eq-eqb _ _ t.0, (eq-eqb _ _ t.1, (eq-eqb _ _ t.2, tt)))) (λ e. let t = each_of (on (body_of v) sent) e in stamp-same (eqb-true _ _ t.0) (eqb-true _ _ t.1.0) (eqb-true _ _ t.1.1.0))
+  stamp-is =
+      alike (same (part (times_part v) 6 7) (stamped sent)) (every holds (on (body_of v) sent))
+      (λ e. let t = stamp-told e in every_of (on (body_of v) sent) (eq-eqb _ _ t.0, (eq-eqb _ _ t.1, (eq-eqb _ _ t.2, tt))))
+      (λ e. let t = each_of (on (body_of v) sent) e in stamp-same (eqb-true _ _ t.0) (eqb-true _ _ t.1.0) (eqb-true _ _ t.1.1.0))
     where
       alike : (a b : Bool) → (a ≡ true → b ≡ true) → (b ≡ true → a ≡ true) → a ≡ b
       alike true b f g = sym (f refl)

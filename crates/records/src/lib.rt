@@ -1,7 +1,8 @@
 // One record of the board: its makers, and the rules that it keeps.
 #![tactic(auto)]
 
-ghost use Rattle.std.specs.Prelude.{◌≡◌, [], ◌∷◌, ◌++◌, ◌≤◌, ◌<◌, length, replicate, eqb, leb};
+ghost use Rattle.std.specs.Prelude.{◌≡◌, [], ◌∷◌, ◌++◌, ◌+◌, ◌≤◌, ◌<◌, length, replicate, eqb, leb};
+ghost use Rattle.std.proofs.lemmas.List.Edits.{sets};
 ghost use Rattle.octets.specs.Bytes.{every, holds, same};
 ghost use Rattle.clock.specs.Calendar.{year_days};
 ghost use Rattle.clock.specs.Time.{span};
@@ -40,14 +41,14 @@ impl Record {
 
     pub const CARRIED: usize = 245;
 
-    // Kinds, as they stand in the first byte.
+    // Kinds, as they stand in the first byte: numbers, for `record_ok` and the makers' definitions are said of that byte.
     pub const NOTICE: u8 = 1;
 
     pub const WITHDRAWAL: u8 = 2;
 
     pub const AIRED: u8 = 3;
 
-    // A notice uses all.
+    // A notice uses all. Its key comes as three: `key_of` takes them so.
     pub fn notice(sent: u32, sender: &[u8], identifier: &[u8], header: &[u8]) -> Record
         requires { (length sender.now ≤ 64) × (length identifier.now ≤ 64) × (length header.now ≤ 243) }
         ensures { result.bytes ≡ notice (key_of sent sender.now identifier.now) (pad 243 header.now) }
@@ -71,10 +72,9 @@ impl Record {
         requires { length header.now ≡ 245 }
         ensures { result.bytes ≡ aired header.now }
     {
-        let mut bytes = [0u8; Record::SIZE];
-        bytes[Record::KIND] = Record::AIRED;
-        octets::put_bytes(&mut bytes, Record::HEADER, header);
-        Record { bytes }
+        Record {
+            bytes: of_kind(Record::AIRED, Record::HEADER, header),
+        }
     }
 }
 
@@ -83,10 +83,20 @@ pub fn withdrawal_of(key: &[u8]) -> Record
     requires { length key.now ≡ 132 }
     ensures { result.bytes ≡ withdrawal key.now }
 {
+    Record {
+        bytes: of_kind(Record::WITHDRAWAL, Record::SENT, key),
+    }
+}
+
+// A record of this kind with a field from `at`, and zeros elsewhere.
+fn of_kind(kind: u8, at: usize, field: &[u8]) -> [u8; Record::SIZE]
+    requires { (1 ≤ at) × (at + length field.now ≤ 384) }
+    ensures { result ≡ sets (kind ∷ replicate 383 0) at field.now }
+{
     let mut bytes = [0u8; Record::SIZE];
-    bytes[Record::KIND] = Record::WITHDRAWAL;
-    octets::put_bytes(&mut bytes, Record::SENT, key);
-    Record { bytes }
+    bytes[Record::KIND] = kind;
+    octets::put_bytes(&mut bytes, at, field);
+    bytes
 }
 
 // A record of this kind with a key, and zeros behind it.
@@ -94,18 +104,13 @@ fn keyed(kind: u8, sent: u32, sender: &[u8], identifier: &[u8]) -> [u8; Record::
     requires { (length sender.now ≤ 64) × (length identifier.now ≤ 64) }
     ensures { result ≡ (kind ∷ key_of sent sender.now identifier.now) ++ replicate 251 0 }
 {
-    let mut b = [0u8; Record::SIZE];
-    b[Record::KIND] = kind;
-    octets::put_bytes(&mut b, Record::SENT, &sent.to_be_bytes());
-    octets::put_bytes(&mut b, Record::SENDER, sender);
-    octets::put_bytes(&mut b, Record::IDENTIFIER, identifier);
-    b
+    let mut bytes = of_kind(kind, Record::SENT, &sent.to_be_bytes());
+    octets::put_bytes(&mut bytes, Record::SENDER, sender);
+    octets::put_bytes(&mut bytes, Record::IDENTIFIER, identifier);
+    bytes
 }
 
 // ---- the rules
-
-// The seconds of 2000 to 2099.
-const SPAN: u32 = 3155760000;
 
 pub fn are_zeros(f: &[u8]) -> bool
     ensures { result ≡ zeros f.now }
@@ -114,76 +119,74 @@ pub fn are_zeros(f: &[u8]) -> bool
 }
 
 // How many bytes stand before the first zero byte.
-fn filled(f: &[u8]) -> usize
-    ensures { result ≡ length (filled_in f.now) }
+fn filled(field: &[u8]) -> usize
+    ensures { result ≡ length (filled_in field.now) }
 {
-    f.iter().take_while(|b| **b != 0).count()
+    field.iter().take_while(|b| **b != 0).count()
 }
 
 // Whether a field is a sender or an identifier, zero-filled.
-fn is_name(f: &[u8]) -> bool
-    ensures { result ≡ zero_filled identity_ok f.now }
+fn is_name(field: &[u8]) -> bool
+    ensures { result ≡ zero_filled identity_ok field.now }
 {
-    let n = filled(f);
-    fields::is_identity(&f[..n]) && are_zeros(&f[n..])
+    let n = filled(field);
+    fields::is_identity(&field[..n]) && are_zeros(&field[n..])
 }
 
-fn sent_of(k: &[u8]) -> u32
-    requires { 4 ≤ length k.now }
-    ensures { result ≡ sent_in k.now }
+fn sent_of(key: &[u8]) -> u32
+    requires { 4 ≤ length key.now }
+    ensures { result ≡ sent_in key.now }
 {
-    u32::from_be_bytes([k[0], k[1], k[2], k[3]])
+    u32::from_be_bytes(parts::bytes_at(key, 0))
 }
 
-// Whether k is a sent, a sender and an identifier.
-fn is_key(k: &[u8]) -> bool
-    requires { length k.now ≡ 132 }
-    ensures { result ≡ key_ok k.now }
+// Whether a key is a sent, a sender and an identifier.
+fn is_key(key: &[u8]) -> bool
+    requires { length key.now ≡ 132 }
+    ensures { result ≡ key_ok key.now }
 {
-    sent_of(k) < SPAN
-        && is_name(&k[Record::SENDER - Record::SENT..Record::IDENTIFIER - Record::SENT])
-        && is_name(&k[Record::IDENTIFIER - Record::SENT..Record::HEADER - Record::SENT])
+    sent_of(key) < clock::SPAN
+        && is_name(&key[Record::SENDER - Record::SENT..Record::IDENTIFIER - Record::SENT])
+        && is_name(&key[Record::IDENTIFIER - Record::SENT..Record::HEADER - Record::SENT])
 }
 
 // The header that a field is, zero-filled.
-fn header_in(h: &[u8]) -> Option<Body>
-    ensures { result ≡ body_in h.now }
+fn header_in(field: &[u8]) -> Option<Body>
+    ensures { result ≡ body_in field.now }
 {
-    let n = filled(h);
-    if !are_zeros(&h[n..]) {
+    let n = filled(field);
+    if !are_zeros(&field[n..]) {
         return None;
     }
-    let read = header::read_body(&h[..n]);
+    let read = header::read_body(&field[..n]);
     (read.number == 0).then_some(read.body)
 }
 
 // Whether the day, hour and minute of a header are those of sent.
-fn is_on(b: Body, sent: u32) -> bool
+fn is_on(body: Body, sent: u32) -> bool
     requires { sent < span }
-    ensures { result ≡ every holds (eqb b.day (stamp_of sent).day ∷ eqb b.hour (stamp_of sent).hour ∷ eqb b.minute (stamp_of sent).minute ∷ []) }
+    ensures { result ≡ every holds (eqb body.day (stamp_of sent).day ∷ eqb body.hour (stamp_of sent).hour ∷ eqb body.minute (stamp_of sent).minute ∷ []) }
 {
     let on = clock::stamp_of(sent);
-    b.day == on.day && b.hour == on.hour && b.minute == on.minute
+    body.day == on.day && body.hour == on.hour && body.minute == on.minute
 }
 
-// Whether h is a header, zero-filled, whose JJJHHMM is that of sent.
-fn is_header_of(h: &[u8], sent: u32) -> bool
+// Whether a field is a header, zero-filled, whose JJJHHMM is that of sent.
+fn is_header_of(field: &[u8], sent: u32) -> bool
     requires { sent < span }
-    ensures { result ≡ every holds (header_ok h.now ∷ same (stamp_in h.now) (stamped sent) ∷ []) }
+    ensures { result ≡ every holds (header_ok field.now ∷ same (stamp_in field.now) (stamped sent) ∷ []) }
 {
-    match header_in(h) {
-        Some(body) => is_on(body, sent),
-        None => false,
-    }
+    header_in(field).is_some_and(|body| is_on(body, sent))
 }
 
+// A slice of SIZE bytes here and below, and no array: that the array which `try_from` makes has the bytes of a slice of this length was not proved.
 fn is_notice(r: &[u8]) -> bool
     requires { length r.now ≡ 384 }
     ensures { result ≡ every holds (notice_tests r.now) }
 {
-    let k = &r[Record::SENT..Record::HEADER];
-    is_key(k)
-        && is_header_of(&r[Record::HEADER..Record::YEAR], sent_of(k))
+    let key = &r[Record::SENT..Record::HEADER];
+    is_key(key)
+        && is_header_of(&r[Record::HEADER..Record::YEAR], sent_of(key))
         && are_zeros(&r[Record::YEAR..Record::SIZE])
 }
 
@@ -202,7 +205,7 @@ fn is_withdrawal(r: &[u8]) -> bool
 fn utc_year(sent: u32) -> u32
     ensures { result ≡ (stamp_of sent).year }
 {
-    if SPAN <= sent {
+    if clock::SPAN <= sent {
         return 2099;
     }
     clock::stamp_of(sent).year
@@ -216,16 +219,16 @@ fn two_bytes(year: u32) -> [u8; 2]
     [high, low]
 }
 
-// The header h of a message with the key k, with the year of its sent.
-fn with_year(k: &[u8], h: &[u8]) -> [u8; Record::CARRIED]
-    requires { (length k.now ≡ 132) × (length h.now ≡ 243) }
-    ensures { result ≡ dated k.now h.now }
+// The header of a message with this key, with the year of its sent.
+fn with_year(key: &[u8], header: &[u8]) -> [u8; Record::CARRIED]
+    requires { (length key.now ≡ 132) × (length header.now ≡ 243) }
+    ensures { result ≡ dated key.now header.now }
 {
-    let year = two_bytes(utc_year(sent_of(k)));
-    let mut g = [0u8; Record::CARRIED];
-    octets::put_bytes(&mut g, 0, h);
-    octets::put_bytes(&mut g, Record::FRONT, &year);
-    g
+    let year = two_bytes(utc_year(sent_of(key)));
+    let mut bytes = [0u8; Record::CARRIED];
+    octets::put_bytes(&mut bytes, 0, header);
+    octets::put_bytes(&mut bytes, Record::FRONT, &year);
+    bytes
 }
 
 // The header with its year that a notice or an aired record carries.
@@ -239,17 +242,15 @@ pub fn carried_by(r: &[u8]) -> [u8; Record::CARRIED]
             &r[Record::HEADER..Record::YEAR],
         );
     }
-    let mut g = [0u8; Record::CARRIED];
-    g.copy_from_slice(&r[Record::HEADER..Record::ZEROS]);
-    g
+    parts::bytes_at(r, Record::HEADER)
 }
 
 // The year in a header with its year.
-fn year_in(g: &[u8]) -> u32
-    requires { length g.now ≡ 245 }
-    ensures { result ≡ year_in g.now }
+fn year_in(header: &[u8]) -> u32
+    requires { length header.now ≡ 245 }
+    ensures { result ≡ year_in header.now }
 {
-    u32::from(u16::from_be_bytes([g[Record::FRONT], g[Record::FRONT + 1]]))
+    u32::from(u16::from_be_bytes(parts::bytes_at(header, Record::FRONT)))
 }
 
 // Whether a year has a day.
@@ -259,16 +260,14 @@ fn has_day(year: u32, day: u32) -> bool
     day <= if clock::is_leap(year) { 366 } else { 365 }
 }
 
-// Whether g is a header, zero-filled, with a year of 2000 to 2099 that has its day.
-fn is_dated(g: &[u8]) -> bool
-    requires { length g.now ≡ 245 }
-    ensures { result ≡ dated_ok g.now }
+// Whether this is a header, zero-filled, with a year of 2000 to 2099 that has its day.
+fn is_dated(header: &[u8]) -> bool
+    requires { length header.now ≡ 245 }
+    ensures { result ≡ dated_ok header.now }
 {
-    let year = year_in(g);
-    match header_in(&g[..Record::FRONT]) {
-        Some(body) => (2000..=2099).contains(&year) && has_day(year, body.day),
-        None => false,
-    }
+    let year = year_in(header);
+    (2000..=2099).contains(&year)
+        && header_in(&header[..Record::FRONT]).is_some_and(|body| has_day(year, body.day))
 }
 
 fn is_aired(r: &[u8]) -> bool

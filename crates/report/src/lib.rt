@@ -10,7 +10,7 @@ ghost use Rattle.report.specs.Program.{program_of};
 use sentence::Writer;
 
 // The room that all lines fit.
-const ROOM: usize = 8704;
+pub const ROOM: usize = 8704;
 
 // ---- words
 
@@ -143,9 +143,9 @@ pub fn program(message: &[u8], out: &mut [u8]) -> usize
     if out.len() < ROOM {
         return 0;
     }
-    let mut header = [0u8; 252];
-    let mut text = [0u8; 7200];
-    let mut uri = [0u8; 1024];
+    let mut header = [0u8; header::MOST];
+    let mut text = [0u8; outputs::TEXT];
+    let mut uri = [0u8; outputs::URI];
     let headed = convert::header(message, b"BENCH/01", &mut header);
     let worded = convert::text(message, b"BENCH/01", &mut text, &mut uri);
     put_lines(

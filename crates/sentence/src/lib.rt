@@ -127,15 +127,15 @@ impl Writer<'_> {
         self.put_number(n, v);
     }
 
-    fn put_when(&mut self, period: u32, day: u32, hour: u32, minute: u32)
+    fn put_when(&mut self, b: &Body)
         requires { self.old.at + 58 ≤ length self.old.out.now }
-        ensures { Wrote self.old self.new (when_words period day hour minute) }
+        ensures { Wrote self.old self.new (when_words b.now.period b.now.day b.now.hour b.now.minute) }
     {
-        self.put_numbered(b", valid from ", 2, hour);
-        self.put_numbered(b":", 2, minute);
-        self.put_numbered(b" UTC on day ", 3, day);
-        self.put_numbered(b" for ", 2, period / 60);
-        self.put_numbered(b" hours ", 2, period % 60);
+        self.put_numbered(b", valid from ", 2, b.hour);
+        self.put_numbered(b":", 2, b.minute);
+        self.put_numbered(b" UTC on day ", 3, b.day);
+        self.put_numbered(b" for ", 2, b.period / 60);
+        self.put_numbered(b" hours ", 2, b.period % 60);
         self.put(b" minutes.");
     }
 
@@ -148,7 +148,7 @@ impl Writer<'_> {
     {
         self.put_who(b.originator, &b.event);
         self.put_joined(&b.locations[..b.count]);
-        self.put_when(b.period, b.day, b.hour, b.minute);
+        self.put_when(&b);
     }
 }
 

@@ -4,7 +4,7 @@
 --     held_bytes, new-bytes             what an addition leaves
 --     held-now, next-rest               a batch added, record by record
 use Prim.Native.Nat.{ℕ, zero, suc, ◌+◌, ◌*◌, ◌-◌, ◌≤◌, ◌<◌}
-use mathlib.Core.Bool.{Bool, true, false, not, ◌||◌}
+use mathlib.Core.Bool.{Bool, true, false, not, ◌||◌, true≢false}
 use mathlib.Core.Path.{◌≡◌, refl, sym, ap, ap₂, ◌∙◌}
 use mathlib.Core.Logic.{inl, inr, ⊎_elim}
 use mathlib.Core.List.{List, [], ◌∷◌, ◌++◌, append_assoc}
@@ -59,11 +59,14 @@ recs-drop n i s h = drop-cons (recs n s) i [] (rw recs-length h) ∙ ap₂ ◌�
 
 pub recs-snoc : (i : ℕ) (s : List ℕ) → recs (suc i) s ≡ recs i s ++ (rec i s ∷ [])
 recs-snoc zero s = refl
-recs-snoc (suc i) s = ap (λ (l : List (List ℕ)). take 384 s ∷ l) (recs-snoc i (drop 384 s) ∙ ap (λ (r : List ℕ). recs i (drop 384 s) ++ (take 384 r ∷ [])) (drop-drop (i * 384) 384 s ∙ ap (λ (k : ℕ). drop k s) (let q : 384 + i * 384 ≡ suc i * 384 = omega arith in q)))
+recs-snoc (suc i) s =
+    ap (λ (l : List (List ℕ)). take 384 s ∷ l) (recs-snoc i (drop 384 s) ∙ ap (λ (r : List ℕ). recs i (drop 384 s) ++ (take 384 r ∷ [])) (drop-drop (i * 384) 384 s ∙ ap (λ (k : ℕ). drop k s) (let q : 384 + i * 384 ≡ suc i * 384 = omega arith in q)))
 
 pub recs-more : (i d : ℕ) (t : List ℕ) → recs (i + d) t ≡ recs i t ++ recs d (drop (i * 384) t)
 recs-more zero d t = ap (λ (k : ℕ). recs k t) (zero-add d)
-recs-more (suc i) d t = ap (λ (k : ℕ). recs k t) (suc-add i d) ∙ ap (λ (l : List (List ℕ)). take 384 t ∷ l) (recs-more i d (drop 384 t) ∙ ap (λ (x : List ℕ). recs i (drop 384 t) ++ recs d x) (drop-drop (i * 384) 384 t ∙ ap (λ (k : ℕ). drop k t) (let q : 384 + i * 384 ≡ suc i * 384 = omega arith in q)))
+recs-more (suc i) d t =
+    ap (λ (k : ℕ). recs k t) (suc-add i d)
+    ∙ ap (λ (l : List (List ℕ)). take 384 t ∷ l) (recs-more i d (drop 384 t) ∙ ap (λ (x : List ℕ). recs i (drop 384 t) ++ recs d x) (drop-drop (i * 384) 384 t ∙ ap (λ (k : ℕ). drop k t) (let q : 384 + i * 384 ≡ suc i * 384 = omega arith in q)))
 
 pub in-recs : (r : List ℕ) (n : ℕ) (s : List ℕ) → n * 384 ≤ length s → In r (recs n s) → length r ≡ 384
 in-recs r zero s h m = absurd m
@@ -299,7 +302,7 @@ module _ (s t : List ℕ) (n i : ℕ) (sorted : Sorted (recs n s)) where
       let q = ap length (insert-next i t (recs n s)) ∙ insert-new (rec i t) (insert_all (recs i t) (recs n s)) none in omega arith
     where
       none : In (rec i t) (insert_all (recs i t) (recs n s)) → ⊥
-      none m = ⊎_elim (λ k. let g : false ≡ true = f ∙ (has_in (rec i t) (recs i t)).1 k in let z : ◌≡◌ {A = ℕ} 0 1 = cc in omega arith) (λ k. let g : false ≡ true = e ∙ (has_in (rec i t) (recs n s)).1 k in let z : ◌≡◌ {A = ℕ} 0 1 = cc in omega arith) ((in-insert_all (rec i t) (recs i t) (recs n s)).0 m)
+      none m = ⊎_elim (λ k. absurd (true≢false (sym (f ∙ (has_in (rec i t) (recs i t)).1 k)))) (λ k. absurd (true≢false (sym (e ∙ (has_in (rec i t) (recs n s)).1 k)))) ((in-insert_all (rec i t) (recs i t) (recs n s)).0 m)
 
   -- record i is one more where it is neither
   pub count-old : (h : Bool) → h ≡ true → true ≡ has (rec i t) (recs n s) → pick (not h) 1 0 + length (insert_all (recs i t) (recs n s)) ≡ length (insert_all (recs (i + 1) t) (recs n s))

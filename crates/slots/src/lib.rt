@@ -10,10 +10,10 @@ ghost use Rattle.ledger.specs.Sorted.{has, Sorted, insert, insert_all};
 ghost use Rattle.slots.specs.WorkingSlots.{rec, flat, place_of};
 ghost use Rattle.slots.specs.Slots.{recs};
 
+// A slice and how many of its records count: docs/PROMISES.md names these functions so, and an addition changes both at once, so that no view of the records can be held over it.
+
 use records::Record;
 use std::cmp::Ordering;
-
-// A slice and how many of its records count: an addition changes both at once, so that no view of the records can be held over it.
 
 // The record at index i.
 pub fn record_at(s: &[u8], i: usize) -> &[u8]
@@ -122,7 +122,8 @@ pub fn add_all(s: &mut [u8], n: usize, batch: &[u8], m: usize) -> usize
     k
 }
 
-// ---- the headers of records: each with its year, which is worked out only where the headers alone are the same
+// ---- the headers of records: each with its year, which is worked out only where the headers alone are the same. What is less than the header without its year
+// is less than the whole; where it is not, the whole decides.
 
 // The header of record i, without its year.
 fn front_at(s: &[u8], i: usize) -> &[u8]

@@ -18,7 +18,7 @@ use convert::Headed;
 use outputs::TextAudio;
 use parts::Body;
 
-// What a bit counts.
+// What a bit counts. Numbers are packed by sums, as `packed_text` and its like say.
 const BIT8: u64 = 1 << 8;
 
 const BIT16: u64 = 1 << 16;

@@ -68,6 +68,14 @@ abbrev pub NameAdded : List ℕ → List ℕ → List ℕ → ℕ → ℕ → �
 NameAdded s t u j e n true = Grown s t u j e n
 NameAdded s t u j e n false = way s t (part s j (e - j)) ≡ None
 
+-- ---- an attribute that is passed over
+
+-- on to the attribute's end, if p takes its name and where that begins
+unfoldable pub passed : List ℕ → (List ℕ → ℕ → Bool) → Attr → Step
+passed s p (Of j e v w) = pick (p (part s j (e - j)) j) (Go w) Stuck
+passed s p (Last j) = Stop j
+passed s p Bad = Stuck
+
 -- ---- attributes whose names no node has
 
 unfoldable pub apart : Option ℕ → ℕ → Step

@@ -1,12 +1,12 @@
 // Start tags with their attributes, and end tags.
 #![tactic(auto)]
 
-ghost use Rattle.std.specs.Prelude.{◌≡◌, ◌++◌, ◌+◌, ◌*◌, ◌-◌, ◌≤◌, ◌<◌, length, get_or, set};
+ghost use Rattle.std.specs.Prelude.{◌≡◌, ℕ, Bool, List, ◌++◌, ◌+◌, ◌*◌, ◌-◌, ◌≤◌, ◌<◌, length, get_or, set};
 ghost use Rattle.octets.specs.Bytes.{same};
 ghost use Rattle.pieces.specs.Walk.{walk_at};
 ghost use Rattle.tags.specs.Attributes.{bit_at, quoted_at, decoded_at, equalled, attr_at, seek_at, attr_named};
 ghost use Rattle.tags.specs.Tags.{take_at, tail_at, open_at, close_at};
-ghost use Rattle.tags.specs.WorkingTree.{nodes, cells, bit_of, way, NameTree, NameAdded, look_at};
+ghost use Rattle.tags.specs.WorkingTree.{nodes, cells, bit_of, way, NameTree, NameAdded, passed, look_at};
 
 use pieces::Step;
 
@@ -23,11 +23,11 @@ pub enum Attr {
     Bad,
 }
 
-// A start tag: where its name ends, and what comes after it.
+// A start tag: where its name ends, and where it does.
 #[derive(Drop)]
 pub enum Open {
-    Full(usize, usize),
-    Empty(usize, usize),
+    Full { name_end: usize, end: usize },
+    Empty { name_end: usize, end: usize },
     Shut,
 }
 
@@ -160,7 +160,8 @@ fn seek(s: &[u8], lead: &[u8], rest: &[u8], stop: usize, i: usize) -> Step
     }
 }
 
-// Where the value stands of the attribute whose name is `lead` and then `rest`, of those that follow `at` and begin before `stop`.
+// Where the value stands of the attribute whose name is `lead` and then `rest`, of those that follow `at` and begin before `stop`. `at ≤ length s` is asked of a
+// caller, who has read what ends there; docs/PROMISES.md names it.
 pub fn find(s: &[u8], lead: &[u8], rest: &[u8], at: usize, stop: usize) -> Option<usize>
     requires { at ≤ length s.now }
     ensures { result ≡ attr_named s.now (lead.now ++ rest.now) at stop }
@@ -170,9 +171,10 @@ pub fn find(s: &[u8], lead: &[u8], rest: &[u8], at: usize, stop: usize) -> Optio
 
 // ---- the attributes of a tag
 
-fn take(s: &[u8], a: usize, i: usize) -> Step
-    requires { a ≤ length s.now }
-    ensures { result ≡ take_at s.now a i }
+// A step over the attribute at i: on to its end, if `takes` takes its name and where that begins.
+fn pass<F: Fn(&[u8], usize) -> bool>(s: &[u8], i: usize, takes: F) -> Step
+    requires { F.IsAlwaysCallable takes }
+    ensures { (p : List ℕ → ℕ → Bool) → ((w : _) (j : ℕ) (r : _) → F.post takes w j r → r ≡ p w.now j) → result ≡ passed s.now p (attr_at s.now i) }
 {
     match attribute(s, i) {
         Attr::Of {
@@ -180,13 +182,24 @@ fn take(s: &[u8], a: usize, i: usize) -> Step
             name_end,
             end,
             ..
-        } => match find(s, b"", &s[name..name_end], a, name) {
-            Some(_) => Step::Stuck,
-            None => Step::Go(end),
-        },
+        } => {
+            if takes(&s[name..name_end], name) {
+                Step::Go(end)
+            } else {
+                Step::Stuck
+            }
+        }
         Attr::Last(j) => Step::Stop(j),
         Attr::Bad => Step::Stuck,
     }
+}
+
+// One attribute of those that begin at a: none before it has its name.
+fn take(s: &[u8], a: usize, i: usize) -> Step
+    requires { a ≤ length s.now }
+    ensures { result ≡ take_at s.now a i }
+{
+    pass(s, i, |name, j| find(s, b"", name, a, j).is_none())
 }
 
 // ---- many attributes
@@ -220,7 +233,8 @@ fn turn(w: &[u8], d: usize) -> usize
     usize::from((octets::byte(w, d / 8) >> (d % 8)) % 2)
 }
 
-// The free cell at which the way of w ends, if no node has that name. The way goes from node to node, with no iterator: a cell tells the next one.
+// The free cell at which the way of w ends, if no node has that name. The way goes from node to node, with no iterator: a cell tells the next one. The tree and the
+// message go side by side: `NameTree` is said of both, and of how many nodes there are so far.
 fn place(s: &[u8], w: &[u8], t: &[u16; CELLS]) -> Option<usize>
     requires { NameTree s.now t.now nodes }
     ensures { result ≡ way s.now t.now w.now }
@@ -261,23 +275,12 @@ fn add(s: &[u8], j: usize, e: usize, t: &mut [u16; CELLS], n: usize) -> bool
     true
 }
 
+// One attribute whose name no node has.
 fn look(s: &[u8], t: &[u16; CELLS], i: usize) -> Step
     requires { NameTree s.now t.now nodes }
     ensures { result ≡ look_at s.now t.now i }
 {
-    match attribute(s, i) {
-        Attr::Of {
-            name,
-            name_end,
-            end,
-            ..
-        } => match place(s, &s[name..name_end], t) {
-            Some(_) => Step::Go(end),
-            None => Step::Stuck,
-        },
-        Attr::Last(j) => Step::Stop(j),
-        Attr::Bad => Step::Stuck,
-    }
+    pass(s, i, |name, _| place(s, name, t).is_some())
 }
 
 // Where the attributes end that follow `at`, if no node has the name of one.
@@ -344,29 +347,38 @@ fn attributes(s: &[u8], at: usize) -> Option<usize>
 
 // ---- tags
 
-// The rest of a start tag whose name ends at a: one that ends there is told at once.
-fn tail(s: &[u8], a: usize) -> Open
-    requires { a ≤ length s.now }
-    ensures { result ≡ tail_at s.now a }
+// The rest of a start tag: one that ends right behind its name is told at once.
+fn tail(s: &[u8], name_end: usize) -> Open
+    requires { name_end ≤ length s.now }
+    ensures { result ≡ tail_at s.now name_end }
 {
-    if octets::byte(s, a) == b'>' {
-        return Open::Full(a, a + 1);
+    if octets::byte(s, name_end) == b'>' {
+        return Open::Full {
+            name_end,
+            end: name_end + 1,
+        };
     }
-    whole_tail(s, a)
+    whole_tail(s, name_end)
 }
 
-fn whole_tail(s: &[u8], a: usize) -> Open
-    requires { a ≤ length s.now }
-    ensures { result ≡ tail_at s.now a }
+fn whole_tail(s: &[u8], name_end: usize) -> Open
+    requires { name_end ≤ length s.now }
+    ensures { result ≡ tail_at s.now name_end }
 {
-    let Some(j) = attributes(s, a) else {
+    let Some(j) = attributes(s, name_end) else {
         return Open::Shut;
     };
     if octets::byte(s, j) == b'>' {
-        return Open::Full(a, j + 1);
+        return Open::Full {
+            name_end,
+            end: j + 1,
+        };
     }
     if octets::stands_at(s, j, b"/>") {
-        Open::Empty(a, j + 2)
+        Open::Empty {
+            name_end,
+            end: j + 2,
+        }
     } else {
         Open::Shut
     }
@@ -379,7 +391,7 @@ pub fn open_tag(s: &[u8], at: usize) -> Open
         return Open::Shut;
     }
     match pieces::name(s, at + 1) {
-        Some(a) => tail(s, a),
+        Some(name_end) => tail(s, name_end),
         None => Open::Shut,
     }
 }

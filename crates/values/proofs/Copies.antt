@@ -1,7 +1,5 @@
--- A copy of at most g characters of a value v, each as a byte, as its caller has it: at the start of a buffer d.
---     room      room for g characters is enough
---     kept      the copy stands there
---     whole     fewer than g characters are the whole value
+-- A copy of at most g characters of a value v, each as a byte, as its caller has it: at the front of a buffer d.
+--     fronted   the copy stands there
 --     plain_by, low-plain                a test that only characters below 128 pass, and a value of such characters, which is its own copy
 --     printable-low                      a value of characters of 32 to 126 is its own copy
 --     low-pick, low_same                 a test that only characters of 1 to 127 pass says the same of a value and of its copy
@@ -11,32 +9,22 @@ use mathlib.Core.Bool.{Bool, true, false}
 use mathlib.Core.List.{List, [], ◌∷◌, ◌++◌, map}
 use native.Mathlib.Omega.{arith}
 use native.Mathlib.Decide.{dec_lt}
-use lib.ListN.{length, take, drop, length-take}
-use lib.Seq.{sets, sets-eq, take_all, take_at}
+use lib.ListN.{length, take, drop, length-take, length-map}
+use lib.Seq.{sets, sets-eq, take_at}
 use lib.Dec.{ltb}
 use borrow.Author.Tests.{lt-ltb, le-ltb, ltb-true}
-use Rattle.octets.specs.Bytes.{pick, every, between, part}
+use Rattle.octets.specs.Bytes.{pick, every, between}
 use Rattle.octets.proofs.Everys.{every-weaker}
 use Rattle.octets.proofs.Tests.{every_first, every_rest, between-low, between-high}
 use Rattle.values.specs.WorkingSteps.{low, is_printable}
 
-length-low : (v : List ℕ) → length (map low v) ≡ length v
-length-low [] = refl
-length-low (c ∷ v) = ap ℕ.suc (length-low v)
-
-module _ (g : ℕ) (v : List ℕ) where
-  pub room : (to n : ℕ) → to + g ≤ n → to + length (take g v) ≤ n
-  room to n h = let l : length (take g v) ≤ g = simp length-take (omega arith) in omega arith
-
-  pub kept : (n : ℕ) (d x : List ℕ) → length (take g v) ≡ n → n ≤ length d → x ≡ sets d 0 (map low (take g v)) → part x 0 n ≡ map low (take g v)
-  kept n d x h l e =
-      let w = map low (take g v) in
-      let m : length w ≡ n = length-low (take g v) ∙ h in
-      let q : sets d 0 w ≡ w ++ drop (0 + length w) d = sets-eq w d 0 (omega arith) in
-      ap (take n) (e ∙ q) ∙ take_at w (drop (0 + length w) d) n m
-
-  pub whole : length (take g v) < g → take g v ≡ v
-  whole h = take_all g v (omega (arith, simp length-take at h))
+-- a copy into a buffer of g elements, of which it takes n
+pub fronted : (g n : ℕ) (v d x : List ℕ) → length d ≡ g → n ≡ length (take g v) → x ≡ sets d 0 (map low (take g v)) → take n x ≡ map low (take g v)
+fronted g n v d x l h e =
+    let w = map low (take g v) in
+    let m : length w ≡ n = length-map (take g v) low ∙ sym h in
+    let q : sets d 0 w ≡ w ++ drop (0 + length w) d = sets-eq w d 0 (omega (arith, simp length-take at h)) in
+    ap (take n) (e ∙ q) ∙ take_at w (drop (0 + length w) d) n m
 
 -- ---- as bytes
 

@@ -36,13 +36,11 @@ pub struct Found {
 // ---- reading forward
 
 // A character as what stands next; where there is none, the end.
+#[tactic(auto, unfolding(crate::specs::Chars::met))]
 fn next_of(r: Option<(u32, usize)>) -> Next
     ensures { result ≡ met r }
 {
-    match r {
-        Some((c, j)) => Next::Char(c, j),
-        None => Next::Last,
-    }
+    r.map_or(Next::Last, |(c, j)| Next::Char(c, j))
 }
 
 // A `<` ends the text unless it begins a comment, which its second byte tells at once.
@@ -59,10 +57,7 @@ fn look(s: &[u8], at: usize) -> Next
     if octets::byte(s, at + 1) != b'!' {
         return Next::Last;
     }
-    match pieces::note(s, at) {
-        Some(j) => Next::Over(j),
-        None => Next::Last,
-    }
+    pieces::note(s, at).map_or(Next::Last, Next::Over)
 }
 
 // The first character from `at` on that stops. Comments are passed over, as is every other character.
@@ -94,7 +89,7 @@ fn gap(s: &[u8], at: usize) -> Option<(u32, usize)>
     Some((32, f.at))
 }
 
-// Where the first character of the value stands: here, at a mark.
+// Where the first character of the value stands: here, at a mark; the message's end where there is none, as `lead_at` says, for there too a value is empty.
 pub fn lead(s: &[u8], at: usize) -> usize
     ensures { result ≡ lead_at s.now at }
 {
@@ -221,7 +216,7 @@ pub fn equal_any_case(s: &[u8], at: usize, w: &[u8]) -> bool
 
 // ---- a value that is asked for bytes
 
-// A character as one byte keeps it: its low eight bits where it is below 128.
+// A character as one byte keeps it: itself below 128, and 0, which nothing that is asked for has, for any other, as `low` says.
 pub fn low_of(c: u32) -> u8
     ensures { result ≡ low c }
 {
@@ -229,6 +224,7 @@ pub fn low_of(c: u32) -> u8
 }
 
 // Puts at most g characters of a value, from a place in it, into `out` at `to`, each as one byte, and says how many.
+// By index: the value may end before `out` does, and a proof knows nothing of what is written through an iterator.
 fn copy_rest(s: &[u8], at: usize, g: usize, out: &mut [u8], to: usize) -> usize
     requires { to + length (take g (rest_at s.now at)) ≤ length out.old }
     ensures value { result ≡ length (take g (rest_at s.now at)) }
@@ -258,15 +254,25 @@ pub fn copy(s: &[u8], at: usize, g: usize, out: &mut [u8], to: usize) -> usize
     n + copy_rest(s, i + n, g - n, out, to + n)
 }
 
+// As many characters of the value as there is room for, put at the front of it, each as one byte.
+#[tactic(auto, using(crate::proofs::Copies::fronted))]
+pub fn front<'a, const N: usize>(s: &[u8], at: usize, room: &'a mut [u8; N]) -> &'a [u8]
+    ensures { result.now ≡ map low (take N (value_at s.now at)) }
+{
+    let n = copy(s, at, N, room, 0);
+    &room[..n]
+}
+
 // The number that the value writes in six digits.
 pub fn six_digits(s: &[u8], at: usize) -> Option<u32>
     ensures { result ≡ six_digits (value_at s.now at) }
 {
-    let mut d = [0u8; 7];
-    if copy(s, at, 7, &mut d, 0) != 6 {
+    let mut room = [0u8; 7];
+    let digits = front(s, at, &mut room);
+    if digits.len() != 6 {
         return None;
     }
-    octets::number(&d, 0, 6)
+    octets::number(digits, 0, 6)
 }
 
 // ---- a value put into a text

@@ -35,7 +35,7 @@ struct Along {
 const MOST: usize = 1800;
 
 // The same, less the space before what is put last.
-const ROOM: usize = 1799;
+const BEFORE_LAST: usize = MOST - 1;
 
 // Puts characters that are one byte each.
 fn put_words(t: &[u8], out: &mut [u8], pen: Pen) -> Pen
@@ -57,28 +57,28 @@ pub fn put_first(s: &[u8], p: usize, out: &mut [u8]) -> Pen
     ensures value { result ≡ pen_after start_pen (plain (value_at s.now p)) }
     ensures out_after { out.new ≡ sets out.old 0 (utf8 (plain (value_at s.now p))) }
 {
-    let r = values::spell(s, values::lead(s, p), MOST, out, 0);
+    let spelled = values::spell(s, values::lead(s, p), MOST, out, 0);
     Pen {
-        at: r.end,
-        count: r.count,
+        at: spelled.end,
+        count: spelled.count,
     }
 }
 
-// Puts a space and the first g characters of the value at p.
-fn put_spaced(s: &[u8], p: usize, g: usize, out: &mut [u8], pen: Pen) -> Along
-    requires { Room pen (length (32 ∷ take g (value_at s.now p))) out.old }
-    ensures pen_value { result.pen ≡ pen_after pen (32 ∷ take g (value_at s.now p)) }
-    ensures next_value { rest_at s.now result.next ≡ drop g (value_at s.now p) }
-    ensures out_after { out.new ≡ sets out.old pen.at (utf8 (32 ∷ take g (value_at s.now p))) }
+// Puts a space and the first `count` characters of the value at p.
+fn put_spaced(s: &[u8], p: usize, count: usize, out: &mut [u8], pen: Pen) -> Along
+    requires { Room pen (length (32 ∷ take count (value_at s.now p))) out.old }
+    ensures pen_value { result.pen ≡ pen_after pen (32 ∷ take count (value_at s.now p)) }
+    ensures next_value { rest_at s.now result.next ≡ drop count (value_at s.now p) }
+    ensures out_after { out.new ≡ sets out.old pen.at (utf8 (32 ∷ take count (value_at s.now p))) }
 {
     octets::put_byte(out, pen.at, b' ');
-    let r = values::spell(s, values::lead(s, p), g, out, pen.at + 1);
+    let spelled = values::spell(s, values::lead(s, p), count, out, pen.at + 1);
     Along {
         pen: Pen {
-            at: r.end,
-            count: pen.count + 1 + r.count,
+            at: spelled.end,
+            count: pen.count + 1 + spelled.count,
         },
-        next: r.next,
+        next: spelled.next,
     }
 }
 
@@ -91,7 +91,7 @@ pub fn put_plain(s: &[u8], p: usize, out: &mut [u8], pen: Pen) -> Pen
     if pen.count == MOST || values::is_empty(s, p) {
         return pen;
     }
-    let left = ROOM - pen.count;
+    let left = BEFORE_LAST - pen.count;
     put_spaced(s, p, left, out, pen).pen
 }
 
@@ -104,26 +104,26 @@ fn put_last(s: &[u8], i: usize, out: &mut [u8], pen: Pen) -> Pen
     if values::exceeds(s, i, 3) {
         return put_words(b"***", out, pen);
     }
-    let r = values::spell(s, i, 3, out, pen.at);
+    let spelled = values::spell(s, i, 3, out, pen.at);
     Pen {
-        at: r.end,
-        count: pen.count + r.count,
+        at: spelled.end,
+        count: pen.count + spelled.count,
     }
 }
 
-// Puts a space and the value at p, cut to g, if there is one: its first g − 3 characters, and then the other three or the mark. Nothing is
-// measured.
-fn put_part(s: &[u8], p: usize, g: usize, out: &mut [u8], pen: Pen) -> Pen
-    requires le_g { g < length (value_at s.now p) → 3 ≤ g }
-    requires room { Room pen (length (after_space (cut g (value_at s.now p)))) out.old }
-    ensures value { result ≡ pen_after pen (after_space (cut g (value_at s.now p))) }
-    ensures out_after { out.new ≡ sets out.old pen.at (utf8 (after_space (cut g (value_at s.now p)))) }
+// Puts a space and the value at p, cut to its allotment, if there is one: all but the last three characters of that, and then the other three
+// or the mark. Nothing is measured.
+fn put_part(s: &[u8], p: usize, allotment: usize, out: &mut [u8], pen: Pen) -> Pen
+    requires le_allotment { allotment < length (value_at s.now p) → 3 ≤ allotment }
+    requires room { Room pen (length (after_space (cut allotment (value_at s.now p)))) out.old }
+    ensures value { result ≡ pen_after pen (after_space (cut allotment (value_at s.now p))) }
+    ensures out_after { out.new ≡ sets out.old pen.at (utf8 (after_space (cut allotment (value_at s.now p)))) }
 {
     if values::is_empty(s, p) {
         return pen;
     }
-    let a = put_spaced(s, p, g.saturating_sub(3), out, pen);
-    put_last(s, a.next, out, a.pen)
+    let front = put_spaced(s, p, allotment.saturating_sub(3), out, pen);
+    put_last(s, front.next, out, front.pen)
 }
 
 // What description gets behind n characters where instruction has i.
@@ -131,8 +131,8 @@ fn given(n: usize, i: usize) -> usize
     requires { n ≤ 1798 }
     ensures { result ≡ given_to n i }
 {
-    let a = ROOM - n - i.min(1);
-    a.saturating_sub(i).max(a / 2)
+    let both = BEFORE_LAST - n - i.min(1);
+    both.saturating_sub(i).max(both / 2)
 }
 
 // Puts description and instruction. Only instruction is measured beforehand: it gets what description leaves.
@@ -141,14 +141,14 @@ fn put_parts(s: &[u8], description: usize, instruction: usize, out: &mut [u8], p
     ensures value { result ≡ pen_after pen (last_parts pen.count (value_at s.now description) (value_at s.now instruction)) }
     ensures out_after { out.new ≡ sets out.old pen.at (utf8 (last_parts pen.count (value_at s.now description) (value_at s.now instruction))) }
 {
-    let i = values::size(s, instruction);
-    let g = given(pen.count, i);
-    let e = put_part(s, description, g, out, pen);
-    if i == 0 {
-        return e;
+    let size = values::size(s, instruction);
+    let allotment = given(pen.count, size);
+    let described = put_part(s, description, allotment, out, pen);
+    if size == 0 {
+        return described;
     }
-    let left = ROOM - e.count;
-    put_part(s, instruction, left, out, e)
+    let left = BEFORE_LAST - described.count;
+    put_part(s, instruction, left, out, described)
 }
 
 // Puts a space and the sender's phrase, if there is one.
@@ -160,12 +160,12 @@ fn put_phrase(s: &[u8], sender: usize, out: &mut [u8], pen: Pen) -> Pen
     if values::is_empty(s, sender) {
         return pen;
     }
-    let a = put_words(b" Message from", out, pen);
-    let b = put_spaced(s, sender, 200, out, a);
-    put_words(b".", out, b.pen)
+    let opened = put_words(b" Message from", out, pen);
+    let named = put_spaced(s, sender, 200, out, opened);
+    put_words(b".", out, named.pen)
 }
 
-// Puts the text at the start of `out`, and says how many bytes it has.
+// Puts the text at the start of `out`, and says how many bytes it has. The places of four values come one by one: `text_of` takes the values so.
 pub fn write_text(
     s: &[u8],
     b: Body,
@@ -181,10 +181,10 @@ pub fn write_text(
     ensures out_after { out.new ≡ sets out.old 0 (utf8 (text_of (sentence_of b) (value_at s.now eas) (value_at s.now sender) (value_at s.now description) (value_at s.now instruction))) }
 {
     let n = sentence::put_sentence(out, 0, b);
-    let e = put_plain(s, eas, out, Pen { at: n, count: n });
-    if e.count != n {
-        return e.at;
+    let behind_eas = put_plain(s, eas, out, Pen { at: n, count: n });
+    if behind_eas.count != n {
+        return behind_eas.at;
     }
-    let f = put_phrase(s, sender, out, e);
-    put_parts(s, description, instruction, out, f).at
+    let behind_phrase = put_phrase(s, sender, out, behind_eas);
+    put_parts(s, description, instruction, out, behind_phrase).at
 }

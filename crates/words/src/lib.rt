@@ -1,5 +1,6 @@
 // Tables of words: how long each is, and all of them one behind another. The place of a name in a table, and the word at a place.
 // Lengths stand apart from words, and each call is to be inlined, so that a table that is written out is unrolled, and costs what a chain of tests does.
+// No slice of slices: `words_of`, by which each function promises, takes the lengths and the words.
 #![tactic(auto)]
 
 ghost use Rattle.std.specs.Prelude.{◌≡◌, ℕ, List, Bool, [], option_map, get_or};

@@ -15,9 +15,9 @@ use Rattle.board.proofs.air.Goals as goal
 
 pub add-requires : goal.add-requires
 add-requires c =
-    (omega (arith, c.requires), omega (arith, c.requires, insert-length c.aired_at-a.result.bytes (recs c.args.n c.args.s.now), recs-length c.args.n c.args.s.now), search rules)
+    (omega (arith, c.requires), omega (arith, c.requires, insert-length c.aired_at-aired.result.bytes (recs c.args.n c.args.s.now), recs-length c.args.n c.args.s.now), search rules)
 
 pub returns : goal.returns
 returns c =
     let a = c.args in
-    c.add.ensures.s_after ∙ ap (λ (m : ℕ). flat (insert c.aired_at-a.result.bytes (recs a.n a.s.now)) ++ drop (m * 384) a.s.now) c.add.ensures.value ∙ ap (added a.s.now a.n) c.aired_at-a.ensures
+    c.add.ensures.s_after ∙ ap (λ (m : ℕ). flat (insert c.aired_at-aired.result.bytes (recs a.n a.s.now)) ++ drop (m * 384) a.s.now) c.add.ensures.value ∙ ap (added a.s.now a.n) c.aired_at-aired.ensures

@@ -21,11 +21,11 @@ returns-then-not-holds c =
     let b = recs a.n a.s.now in
     live-by b (rec a.i a.s.now) c.holds-then-not-holds.result
     (kind-rec a.s.now a.i ∙ c.if-s-at-ne-NOTICE.false)
-    (ap (λ (x : List ℕ). has x b) (sym (c.withdrawal_of-w.ensures ∙ ap withdrawal (key-part a.s.now a.i))) ∙ sym c.if-not-holds.ensures)
+    (ap (λ (x : List ℕ). has x b) (sym (c.withdrawal_of-withdrawal.ensures ∙ ap withdrawal (key-part a.s.now a.i))) ∙ sym c.if-not-holds.ensures)
     (c.holds-then-not-holds.ensures ∙ ap (λ (x : List ℕ). has x b) c.aired_at.ensures)
 
 pub returns-else-not-holds : goal.returns-else-not-holds
 returns-else-not-holds c =
     let a = c.args in
     let b = recs a.n a.s.now in
-    rw c.if-not-holds.false (is-withdrawn b (rec a.i a.s.now) (ap (λ (x : List ℕ). has x b) (sym (c.withdrawal_of-w.ensures ∙ ap withdrawal (key-part a.s.now a.i))) ∙ sym c.if-not-holds.ensures))
+    rw c.if-not-holds.false (is-withdrawn b (rec a.i a.s.now) (ap (λ (x : List ℕ). has x b) (sym (c.withdrawal_of-withdrawal.ensures ∙ ap withdrawal (key-part a.s.now a.i))) ∙ sym c.if-not-holds.ensures))

@@ -1,13 +1,8 @@
-use Prim.Native.Nat.{◌+◌, ◌*◌}
-use mathlib.Core.Path.{◌≡◌}
-use native.Mathlib.Omega.{arith}
-use Rattle.octets.proofs.Stretches.{each-join}
-use Rattle.calm.specs.WorkingCalm.{calm_at}
+-- Where the test of a byte gives 0, the byte is calm before the one behind it.
+use Rattle.std.proofs.Common.{rules, arith}
 use Rattle.calm.proofs.calm_blocks.Goals as goal
 
-pub loop-k-preserved : goal.loop-k-preserved
-loop-k-preserved c =
-    let a = c.args in
-    let k = c.loop-k.k in
-    let e : 16 * k + 16 ≡ 16 * (k + 1) = omega arith in
-    rw e at (each-join (calm_at a.s.now) a.at (16 * k) 16 c.loop-k.invariant (c.is_block.ensures c.if-not-is_block.false))
+pub returns : goal.returns
+returns c =
+    let b = c.blocks-2.ensures in
+    (omega (arith, b.upper_bound, c.min-room.ensures), λ j h. let e = b.still j h in search (rules, e))

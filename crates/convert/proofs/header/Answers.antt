@@ -9,8 +9,8 @@ use Rattle.convert.proofs.Outcomes.{headed-short, headed, refused, quiet, alert,
 use Rattle.convert.proofs.header.Goals.{then-j-ne0-via-then-j-ne0, then-j-ne0-via-else-j-ne0+then-j}
 use Rattle.convert.proofs.header.Goals as goal
 
-pub returns-then-out-lt252 : goal.returns-then-out-lt252
-returns-then-out-lt252 c =
+pub returns-then-out-lt-MOST : goal.returns-then-out-lt-MOST
+returns-then-out-lt-MOST c =
     let both = untouched _ _ _ 2 0 (headed-short c.args.message.now c.args.station.now _ (omega arith)) c.no_header.ensures in
     record { value = both.0; out_after = both.1 }
 

@@ -6,43 +6,43 @@ use Rattle.fields.proofs.Groups.{group-no, time-decides, first-in, no-first, no_
 use Rattle.fields.proofs.is_group.Goals as goal
 use Rattle.fields.proofs.is_group.Goals.{then-is_identity, else-is_identity}
 
-pub returns-then-a-t : goal.returns-then-a-t
-returns-then-a-t c = sym (no-first _ _ c.comma-a.ensures c.if-a-t.true)
+pub returns-then-first-t : goal.returns-then-first-t
+returns-then-first-t c = sym (no-first _ _ c.comma-first.ensures c.if-first-t.true)
 
-pub overflow_add-a : goal.overflow_add-a
-overflow_add-a c = omega (arith, first-in c.args.t.now _ c.comma-a.ensures)
+pub overflow_add-first : goal.overflow_add-first
+overflow_add-first c = omega (arith, first-in c.args.t.now _ c.comma-first.ensures)
 
-pub returns-then-b-t : goal.returns-then-b-t
-returns-then-b-t c = sym (no_second _ _ c.comma-a.ensures _ c.comma-b.ensures c.if-b-t.true)
+pub returns-then-second-t : goal.returns-then-second-t
+returns-then-second-t c = sym (no_second _ _ c.comma-first.ensures _ c.comma-second.ensures c.if-second-t.true)
 
 pub slice_bounds-is_identity-end : goal.slice_bounds-is_identity-end
 slice_bounds-is_identity-end c =
-    let g = parted _ _ c.comma-a.ensures c.if-a-t.false _ c.comma-b.ensures c.if-b-t.false in
+    let g = parted _ _ c.comma-first.ensures c.if-first-t.false _ c.comma-second.ensures c.if-second-t.false in
     simp length-take (omega (arith, g.order, g.inside))
 
 pub slice_bounds-is_identity-end-then-is_identity : goal.slice_bounds-is_identity-end-then-is_identity
 slice_bounds-is_identity-end-then-is_identity c =
-    let g = parted _ _ c.comma-a.ensures c.if-a-t.false _ c.comma-b.ensures c.if-b-t.false in
+    let g = parted _ _ c.comma-first.ensures c.if-first-t.false _ c.comma-second.ensures c.if-second-t.false in
     omega (arith, g.order, g.inside)
 
-pub overflow_add-b : goal.overflow_add-b
-overflow_add-b c =
-    let g = parted _ _ c.comma-a.ensures c.if-a-t.false _ c.comma-b.ensures c.if-b-t.false in
+pub overflow_add-second : goal.overflow_add-second
+overflow_add-second c =
+    let g = parted _ _ c.comma-first.ensures c.if-first-t.false _ c.comma-second.ensures c.if-second-t.false in
     omega (arith, g.order, g.inside)
 
 pub slice_bounds-instant-count : goal.slice_bounds-instant-count
 slice_bounds-instant-count c =
-    let g = parted _ _ c.comma-a.ensures c.if-a-t.false _ c.comma-b.ensures c.if-b-t.false in
+    let g = parted _ _ c.comma-first.ensures c.if-first-t.false _ c.comma-second.ensures c.if-second-t.false in
     omega (arith, g.order, g.inside)
 
 pub slice_bounds-instant-start : goal.slice_bounds-instant-start
 slice_bounds-instant-start c =
-    let g = parted _ _ c.comma-a.ensures c.if-a-t.false _ c.comma-b.ensures c.if-b-t.false in
+    let g = parted _ _ c.comma-first.ensures c.if-first-t.false _ c.comma-second.ensures c.if-second-t.false in
     omega (arith, g.order, g.inside)
 
 pub returns-then-is_identity-2 : goal.returns-then-is_identity-2
 returns-then-is_identity-2 c =
-    let g = parted _ _ c.comma-a.ensures c.if-a-t.false _ c.comma-b.ensures c.if-b-t.false in
+    let g = parted _ _ c.comma-first.ensures c.if-first-t.false _ c.comma-second.ensures c.if-second-t.false in
     elim c.if-is_identity.branch [
       | then-is_identity w ↦ sym (time-decides _
           (sender-as g c.is_identity.ensures ∙ w.if-is_identity.true)
@@ -53,7 +53,7 @@ returns-then-is_identity-2 c =
 
 pub returns-else-is_identity-2 : goal.returns-else-is_identity-2
 returns-else-is_identity-2 c =
-    let g = parted _ _ c.comma-a.ensures c.if-a-t.false _ c.comma-b.ensures c.if-b-t.false in
+    let g = parted _ _ c.comma-first.ensures c.if-first-t.false _ c.comma-second.ensures c.if-second-t.false in
     elim c.if-is_identity.branch [
       | then-is_identity w ↦ c.if-is_identity-2.false
           ∙ sym (group-no 1 _ (identifier-as g w.is_identity-then-is_identity.ensures ∙ sym w.value-is ∙ c.if-is_identity-2.false))

@@ -4,6 +4,7 @@ use borrow.Author.Tests.{eq-eqb, ne_eqb}
 use Rattle.header.proofs.Reading.{head-refused, head-taken}
 use Rattle.octets.specs.Text.{bytes}
 use Rattle.parts.specs.Originator.{is_known}
+use Rattle.header.proofs.head_of.Goals.{then-s-ne45-via-then-s-ne45, then-s-ne45-via-else-s-ne45+then-not-event_ok}
 use Rattle.header.proofs.head_of.Goals as goal
 
 pub returns-then-not-stands_at : goal.returns-then-not-stands_at
@@ -14,10 +15,11 @@ pub returns-in_err-originator : goal.returns-in_err-originator
 returns-in_err-originator c = c.from_residual.ensures ∙ sym (head-refused 1 _ (ap is_known (sym c.originator_of.ensures ∙ c.in_err-originator.was)))
 
 pub returns-then-s-ne45 : goal.returns-then-s-ne45
-returns-then-s-ne45 c = sym (head-refused 2 _ (ne_eqb _ _ c.if-s-ne45.true))
-
-pub returns-then-not-event_ok : goal.returns-then-not-event_ok
-returns-then-not-event_ok c = sym (head-refused 3 _ (sym c.event_ok.ensures ∙ c.if-not-event_ok.true))
+returns-then-s-ne45 c =
+    elim c.then-s-ne45.branch [
+      | then-s-ne45-via-then-s-ne45 w ↦ sym (head-refused 2 _ (ne_eqb _ _ w.if-s-ne45.true))
+      | then-s-ne45-via-else-s-ne45+then-not-event_ok w ↦ sym (head-refused 3 _ (sym w.event_ok.ensures ∙ w.if-not-event_ok.true))
+    ]
 
 pub returns : goal.returns
 unfolding bytes

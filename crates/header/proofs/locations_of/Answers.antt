@@ -26,11 +26,11 @@ loop-k-init c =
       list = ap₂ (λ (m i : ℕ). padded (locations_of m a.s.now i)) (sub-zero a.n) from;
     }
 
-pub returns-then-s-b-ne45 : goal.returns-then-s-b-ne45
-returns-then-s-b-ne45 c =
+pub returns-then-s-dash-ne45 : goal.returns-then-s-dash-ne45
+returns-then-s-dash-ne45 c =
     let a = c.args in
     let l = c.loop-k in
-    sym (locations-refused _ _ _ (sym l.invariant.form ∙ form-cut a.n l.k a.s.now a.at c.loop-k-test.true ∙ one-fails 0 (_ ∷ _ ∷ _ ∷ []) (ne_eqb _ _ c.if-s-b-ne45.true)))
+    sym (locations-refused _ _ _ (sym l.invariant.form ∙ form-cut a.n l.k a.s.now a.at c.loop-k-test.true ∙ one-fails 0 (_ ∷ _ ∷ _ ∷ []) (ne_eqb _ _ c.if-s-dash-ne45.true)))
 
 pub returns-in_err-list : goal.returns-in_err-list
 returns-in_err-list c =
@@ -45,7 +45,7 @@ loop-k-preserved c =
     let l = c.loop-k in
     let k = c.loop-k-test.true in
     let v = num-value _ _ (sym c.number.ensures ∙ c.in_ok-list.was) in
-    let form = sym (last-decides (_ ∷ _ ∷ []) _ (eq-eqb _ _ c.if-s-b-ne45.false, (v.0, tt))) ∙ sym (form-cut a.n l.k a.s.now a.at k) ∙ l.invariant.form in
+    let form = sym (last-decides (_ ∷ _ ∷ []) _ (eq-eqb _ _ c.if-s-dash-ne45.false, (v.0, tt))) ∙ sym (form-cut a.n l.k a.s.now a.at k) ∙ l.invariant.form in
     let list = ap (sets l.list l.k) (sym (locations-cut a.n l.k a.s.now a.at k)) ∙ l.invariant.list in
     record {
       long = simp length-set l.invariant.long;

@@ -7,8 +7,8 @@ use Rattle.header.proofs.Writing.{write-refused, write_done, number_short, numbe
 use Rattle.parts.proofs.Has.{has}
 use Rattle.header.proofs.write_header.Goals as goal
 
-pub returns-then-out-lt252 : goal.returns-then-out-lt252
-returns-then-out-lt252 c = let r = write-refused _ c.args.p 1 (number_short _ _ (omega arith)) in record { value = sym r.0; out_after = sym r.1 }
+pub returns-then-out-lt-MOST : goal.returns-then-out-lt-MOST
+returns-then-out-lt-MOST c = let r = write-refused _ c.args.p 1 (number_short _ _ (omega arith)) in record { value = sym r.0; out_after = sym r.1 }
 
 pub returns-then-not-station_ok : goal.returns-then-not-station_ok
 returns-then-not-station_ok c =

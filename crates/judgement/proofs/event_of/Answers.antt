@@ -1,16 +1,12 @@
--- An event has three letters, so a copy of four characters of the value is judged as the whole.
-use Prim.Native.Nat.{ℕ}
-use mathlib.Core.Path.{◌≡◌, refl, sym, ◌∙◌}
+-- An event has three letters, so the first four characters of the value are judged as the whole.
+use mathlib.Core.Path.{◌≡◌, sym, ◌∙◌}
 use mathlib.Core.Bool.{true, false}
 use native.Mathlib.Omega.{arith}
 use borrow.Author.Tests.{eq-eqb, ne_eqb}
-use lib.ListN.{replicate, length-take}
-use Rattle.std.proofs.lemmas.List.{length-take-le}
 use Rattle.values.specs.Value.{value_at}
 use Rattle.values.proofs.Copies.{keeps}
 use Rattle.parts.specs.Parts.{event_ok}
 use Rattle.parts.proofs.Has.{event-long}
-use Rattle.fields.proofs.Buffers.{copy-fits}
 use Rattle.judgement.specs.WorkingRules.{event_is, event_of}
 use Rattle.judgement.proofs.Codes.{event-kept, event-judged, three-of, three_back}
 use Rattle.judgement.proofs.event_of.Goals as goal
@@ -19,28 +15,23 @@ pub returns-then-l-ne1 : goal.returns-then-l-ne1
 unfolding event_of event_is
 returns-then-l-ne1 c = rw (ne_eqb _ _ c.if-l-ne1.true)
 
-pub copy-n-requires : goal.copy-n-requires
-copy-n-requires c = simp length-take (omega arith)
-
-pub slice_bounds-event_ok-end : goal.slice_bounds-event_ok-end
-slice_bounds-event_ok-end c =
-    let a = c.args in
-    sym (length-take-le _ _ (copy-fits (replicate {A = ℕ} 4 0) (value_at a.s.now a.l.at) _ _ _ refl c.copy-n.ensures.out_after c.copy-n.ensures.value))
-
 pub returns-then-not-event_ok : goal.returns-then-not-event_ok
 unfolding event_of event_is
 returns-then-not-event_ok c =
     let a = c.args in
     let v = value_at a.s.now a.l.at in
-    let bad : event_ok v ≡ false = sym (event-judged v _ _ c.copy-n.ensures.out_after c.copy-n.ensures.value _ c.event_ok.ensures) ∙ c.if-not-event_ok.true in
+    let bad : event_ok v ≡ false = sym (event-judged v _ c.front-code.ensures _ c.event_ok.ensures) ∙ c.if-not-event_ok.true in
     rw (eq-eqb _ _ c.if-l-ne1.false, bad)
+
+pub bytes_at-requires : goal.bytes_at-requires
+bytes_at-requires c = omega (arith, event-long _ (sym c.event_ok.ensures ∙ c.if-not-event_ok.false))
 
 pub returns : goal.returns
 unfolding event_of event_is
 returns c =
     let a = c.args in
     let v = value_at a.s.now a.l.at in
-    let ok : event_ok v ≡ true = sym (event-judged v _ _ c.copy-n.ensures.out_after c.copy-n.ensures.value _ c.event_ok.ensures) ∙ c.if-not-event_ok.false in
-    let n = three-of v _ _ c.copy-n.ensures.out_after c.copy-n.ensures.value (event-long v ok) in
-    let code = c.bytes_at.ensures ∙ three_back v _ _ c.copy-n.ensures.out_after c.copy-n.ensures.value n ∙ keeps v (event-kept v ok) in
+    let ok : event_ok v ≡ true = sym (event-judged v _ c.front-code.ensures _ c.event_ok.ensures) ∙ c.if-not-event_ok.false in
+    let n = three-of v _ c.front-code.ensures (event-long v ok) in
+    let code = c.bytes_at.ensures ∙ three_back v _ c.front-code.ensures n ∙ keeps v (event-kept v ok) in
     rw (eq-eqb _ _ c.if-l-ne1.false, ok, code)

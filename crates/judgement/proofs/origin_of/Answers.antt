@@ -1,8 +1,7 @@
--- A copy of a value of three characters is in the buffer whole, and no other is an originator.
+-- The front of a value of three characters is the whole value, and no other is an originator.
 use mathlib.Core.Path.{◌≡◌, ap, ◌∙◌}
-use native.Mathlib.Omega.{arith}
 use borrow.Author.Tests.{eq-eqb, ne_eqb}
-use lib.ListN.{length, length-take}
+use lib.ListN.{length}
 use Rattle.values.specs.Value.{value_at}
 use Rattle.parts.specs.Originator.{originator_of}
 use Rattle.judgement.specs.WorkingRules.{origin_of}
@@ -13,15 +12,12 @@ pub returns-then-l-eq0 : goal.returns-then-l-eq0
 unfolding origin_of
 returns-then-l-eq0 c = rw (eq-eqb _ _ c.if-l-eq0.true)
 
-pub copy-n-requires : goal.copy-n-requires
-copy-n-requires c = simp length-take (omega arith)
-
-pub returns-then-n-ne3 : goal.returns-then-n-ne3
+pub returns-then-code-ne3 : goal.returns-then-code-ne3
 unfolding origin_of
-returns-then-n-ne3 c =
+returns-then-code-ne3 c =
     let a = c.args in
     let v = value_at a.s.now a.l.at in
-    let other : length v ≡ 3 → ⊥ = λ h. c.if-n-ne3.true (three-of v _ _ c.copy-n.ensures.out_after c.copy-n.ensures.value h) in
+    let other : length v ≡ 3 → ⊥ = λ h. c.if-code-ne3.true (three-of v _ c.front-code.ensures h) in
     rw (ne_eqb _ _ c.if-l-eq0.false, origin-other v other)
 
 pub returns : goal.returns
@@ -29,5 +25,5 @@ unfolding origin_of
 returns c =
     let a = c.args in
     let v = value_at a.s.now a.l.at in
-    let code = three_back v _ _ c.copy-n.ensures.out_after c.copy-n.ensures.value c.if-n-ne3.false in
+    let code = three_back v _ c.front-code.ensures c.if-code-ne3.false in
     rw (ne_eqb _ _ c.if-l-eq0.false) (c.originator_of.ensures ∙ ap originator_of code ∙ origin-low v)

@@ -1,13 +1,13 @@
 -- The name behind the prefix, and then the namespace.
 use mathlib.Core.Path.{◌≡◌, sym, ap, ◌∙◌}
-use Prim.Native.Nat.{ℕ, ◌-◌}
+use Prim.Native.Nat.{ℕ, ◌-◌, ◌≤◌}
 use native.Mathlib.Omega.{arith}
 use lib.ListN.{length}
 use mathlib.Core.Bool.{true, false}
 use mathlib.Core.List.{◌++◌}
 use Rattle.octets.specs.Bytes.{part, same}
 use Rattle.octets.specs.Text.{bytes}
-use Rattle.std.specs.Prelude.{Some, None}
+use Rattle.std.specs.Prelude.{Some}
 use Rattle.tags.specs.Attributes.{attr_named}
 use Rattle.tags.proofs.Goes.{named-goes}
 use Rattle.reads.specs.Names.{name_of}
@@ -29,24 +29,16 @@ returns-then-not-equal c =
     let e : same (name_of a.s.now a.p.now a.from a.to) (bytes "alert") ≡ false = ap (λ (x : ℕ). same (part a.s.now x (a.to - x)) (bytes "alert")) (sym c.local-at.ensures) ∙ sym c.equal.ensures ∙ c.if-not-equal.true in
     rw e
 
-pub value_is-requires : goal.value_is-requires
-value_is-requires c =
+pub is_some_and-requires : goal.is_some_and-requires
+is_some_and-requires c = λ q e κs.
     let a = c.args in
-    let f : attr_named a.s.now (a.lead.now ++ a.rest.now) a.to (length a.s.now) ≡ Some c.in-Some.q = sym c.find.ensures ∙ c.in-Some.is in
-    (rw f at (named-goes a.s.now (a.lead.now ++ a.rest.now) a.to (length a.s.now) (search rules))).1
+    let f : attr_named a.s.now (a.lead.now ++ a.rest.now) a.to (length a.s.now) ≡ Some q = sym c.find.ensures ∙ e in
+    let within : q ≤ length a.s.now = (rw f at (named-goes a.s.now (a.lead.now ++ a.rest.now) a.to (length a.s.now) (search rules))).1 in
+    search rules
 
-pub returns-in-Some : goal.returns-in-Some
+pub returns : goal.returns
 unfolding root_with is_namespace bytes
-returns-in-Some c =
+returns c =
     let a = c.args in
     let e : same (name_of a.s.now a.p.now a.from a.to) (bytes "alert") ≡ true = ap (λ (x : ℕ). same (part a.s.now x (a.to - x)) (bytes "alert")) (sym c.local-at.ensures) ∙ sym c.equal.ensures ∙ c.if-not-equal.false in
-    let f : attr_named a.s.now (a.lead.now ++ a.rest.now) a.to (length a.s.now) ≡ Some c.in-Some.q = sym c.find.ensures ∙ c.in-Some.is in
-    rw (e, f) c.value_is.ensures
-
-pub returns-in-None : goal.returns-in-None
-unfolding root_with is_namespace bytes
-returns-in-None c =
-    let a = c.args in
-    let e : same (name_of a.s.now a.p.now a.from a.to) (bytes "alert") ≡ true = ap (λ (x : ℕ). same (part a.s.now x (a.to - x)) (bytes "alert")) (sym c.local-at.ensures) ∙ sym c.equal.ensures ∙ c.if-not-equal.false in
-    let f : attr_named a.s.now (a.lead.now ++ a.rest.now) a.to (length a.s.now) ≡ None = sym c.find.ensures ∙ c.in-None.is in
-    rw (e, f)
+    rw (e, ← c.find.ensures) (search rules)

@@ -13,6 +13,6 @@ returns-then-not-is_board c = let e = sym (offer-board _ _ (sym c.is_board.ensur
 pub returns : goal.returns
 returns c =
     let a = c.args in
-    let e = ap (λ (y : Judged). offer_refused_by y.number y.field a.s.now) c.judge-j.ensures ∙ sym (offer-message _ _ (sym c.is_board.ensures ∙ c.if-not-is_board.false) (λ z. c.if-j-eq0.false (ap (λ (y : Judged). y.number) c.judge-j.ensures ∙ z))) in
+    let e = ap (λ (y : Judged). offer_refused_by y.number y.field a.s.now) c.judge-judged.ensures ∙ sym (offer-message _ _ (sym c.is_board.ensures ∙ c.if-not-is_board.false) (λ z. c.if-judged-eq0.false (ap (λ (y : Judged). y.number) c.judge-judged.ensures ∙ z))) in
     let small = judged-small a.message.now in
-    record { value = ap (λ (o : MessageOffering). o.answer) e; s_after = ap (λ (o : MessageOffering). o.bytes) e; number_bound = (rw c.judge-j.ensures small.0, rw c.judge-j.ensures small.1, omega arith) }
+    record { value = ap (λ (o : MessageOffering). o.answer) e; s_after = ap (λ (o : MessageOffering). o.bytes) e; number_bound = (rw c.judge-judged.ensures small.0, rw c.judge-judged.ensures small.1, omega arith) }

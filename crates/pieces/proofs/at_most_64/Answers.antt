@@ -1,14 +1,14 @@
 -- The length decides.
-use Prim.Native.Nat.{◌-◌}
-use native.Mathlib.Omega.{arith}
-use borrow.Author.Tests.{le-leb, lt-leb}
+use Rattle.std.proofs.Common.{◌≡◌, refl, ◌∙◌, ◌-◌, ℕ, Bool, true, false, Some, None, leb}
+use Rattle.std.specs.Bool.{then_some}
+use Rattle.octets.specs.Bytes.{pick}
 use Rattle.pieces.specs.Pieces.{short}
 use Rattle.pieces.proofs.at_most_64.Goals as goal
 
-pub returns-then-e-at-le64 : goal.returns-then-e-at-le64
-unfolding short
-returns-then-e-at-le64 c = rw (le-leb (c.args.e - c.args.at) 64 c.if-e-at-le64.true)
+some_if : (b : Bool) (e : ℕ) → then_some b e ≡ pick b (Some e) None
+some_if true e = refl
+some_if false e = refl
 
-pub returns-else-e-at-le64 : goal.returns-else-e-at-le64
+pub returns : goal.returns
 unfolding short
-returns-else-e-at-le64 c = rw (lt-leb (c.args.e - c.args.at) 64 (omega arith))
+returns c = c.then_some.ensures ∙ some_if (leb (c.args.e - c.args.at) 64) c.args.e

@@ -1,6 +1,7 @@
 -- The first byte decides, and then the callee's answer.
+use Rattle.std.proofs.Common.{rules}
 use Prim.Native.Nat.{◌<◌}
-use mathlib.Core.Path.{◌≡◌, sym, ap, ◌∙◌}
+use mathlib.Core.Path.{◌≡◌, ap}
 use native.Mathlib.Omega.{arith}
 use lib.Dec.{lit<}
 use lib.ListN.{length}
@@ -8,8 +9,7 @@ use borrow.Author.Tests.{eq-eqb, ne_eqb}
 use Rattle.octets.specs.Bytes.{byte_at}
 use Rattle.characters.specs.Utf8.{through}
 use Rattle.pieces.proofs.Words.{inside_is}
-use Rattle.pieces.specs.Pieces.{in_text, ref_at, referred, piece_at}
-use Rattle.std.specs.Prelude.{Some, None}
+use Rattle.pieces.specs.Pieces.{in_text, referred, piece_at}
 use Rattle.pieces.specs.declared.Piece.TheVariants.{Text}
 use Rattle.pieces.proofs.next_piece.Goals as goal
 
@@ -31,25 +31,14 @@ returns-in-60 c =
     let f : c.byte.result ≡ b = cc in
     rw (eq-eqb b 60 (omega arith)) c.next_tag.ensures
 
-pub returns-in-Some : goal.returns-in-Some
+pub returns-in-38 : goal.returns-in-38
 unfolding piece_at referred
-returns-in-Some c =
+returns-in-38 c =
     let s = c.args.s.now in
     let i = c.args.at in
     let b = byte_at s i in
     let f : c.byte.result ≡ b = cc in
-    let w : ref_at s i ≡ Some (c.in-Some.field-0-0, c.in-Some.j) = sym c.reference.ensures ∙ c.in-Some.is in
-    rw (ne_eqb b 60 (omega arith), eq-eqb b 38 (omega arith), w)
-
-pub returns-in-None : goal.returns-in-None
-unfolding piece_at referred
-returns-in-None c =
-    let s = c.args.s.now in
-    let i = c.args.at in
-    let b = byte_at s i in
-    let f : c.byte.result ≡ b = cc in
-    let w : ref_at s i ≡ None = sym c.reference.ensures ∙ c.in-None.is in
-    rw (ne_eqb b 60 (omega arith), eq-eqb b 38 (omega arith), w)
+    rw (ne_eqb b 60 (omega arith), eq-eqb b 38 (omega arith)) (search rules)
 
 pub returns-then-e-at : goal.returns-then-e-at
 unfolding piece_at

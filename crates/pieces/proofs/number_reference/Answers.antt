@@ -1,11 +1,12 @@
 -- Each return is the first test of the definition that fails, or that all of them hold.
-use Rattle.std.proofs.Common.{rules, ◌≡◌, sym, ◌∙◌, ◌-◌, ◌<◌, true, length, arith, lit<}
+use Rattle.std.proofs.Common.{rules, refl, Bool, false, ◌+◌, ◌≡◌, sym, ◌∙◌, ◌-◌, ◌<◌, true, length, arith, lit<}
+use Rattle.std.specs.Bool.{then_some}
+use Rattle.pieces.specs.Pieces.{number_at}
 use borrow.Author.Tests.{ne_eqb}
 use Rattle.octets.specs.Bytes.{byte_at}
 use Rattle.octets.specs.Scan.{past}
 use Rattle.octets.proofs.Scans.{scan-ge}
 use Rattle.octets.proofs.Tests.{below-between, above-between}
-use Rattle.characters.specs.Utf8.{is_legal}
 use Rattle.pieces.specs.Classes.{is_figure}
 use Rattle.pieces.proofs.Words.{inside_is}
 use Rattle.pieces.proofs.Inside.{no-figure}
@@ -54,20 +55,17 @@ slice_bounds-numeral-start c =
     let h : c.past-e.result < length s = inside_is s c.past-e.result 59 (lit< tt) (omega (arith, c.byte.ensures)) in
     omega (arith, e, g, h)
 
-pub returns-then-is_legal : goal.returns-then-is_legal
+pub returns : goal.returns
 unfolding is_figure
-returns-then-is_legal c =
-    let s = c.args.s.now in
-    let i = c.args.at in
-    let base = c.args.base in
-    let z = c.past-e.result in
-    let e : z ≡ past (is_figure base) s i = search rules in
-    let g = scan-ge (λ j. is_figure base (byte_at s j)) (length s) i in
-    let m : is_legal c.numeral-v.result ≡ true = sym c.is_legal.ensures ∙ c.if-is_legal.true in
-    number_is base s i z e c.numeral-v.result c.numeral-v.ensures (omega (arith, e, g)) (omega arith) (omega (arith, c.byte.ensures)) m
-
-pub returns-else-is_legal : goal.returns-else-is_legal
-unfolding is_figure
-returns-else-is_legal c =
-    let e : c.past-e.result ≡ past (is_figure c.args.base) c.args.s.now c.args.at = search rules in
-    number-not c.args.base c.args.s.now c.args.at c.past-e.result e 2 (rw (← c.numeral-v.ensures) (sym c.is_legal.ensures ∙ c.if-is_legal.false))
+returns c = c.then_some.ensures ∙ go c.is_legal.result refl
+  where
+    go : (b : Bool) → c.is_legal.result ≡ b → then_some b (c.numeral-v.result, c.past-e.result + 1) ≡ number_at c.args.base c.args.s.now c.args.at
+    go true q =
+        let s = c.args.s.now in
+        let e : c.past-e.result ≡ past (is_figure c.args.base) s c.args.at = search rules in
+        let g = scan-ge (λ j. is_figure c.args.base (byte_at s j)) (length s) c.args.at in
+        number_is c.args.base s c.args.at c.past-e.result e c.numeral-v.result c.numeral-v.ensures (omega (arith, e, g)) (omega arith) (omega (arith, c.byte.ensures)) (sym c.is_legal.ensures ∙ q)
+    go false q =
+        let s = c.args.s.now in
+        let e : c.past-e.result ≡ past (is_figure c.args.base) s c.args.at = search rules in
+        number-not c.args.base s c.args.at c.past-e.result e 2 (rw (← c.numeral-v.ensures) (sym c.is_legal.ensures ∙ q))

@@ -2,9 +2,10 @@
 use Prim.Native.Nat.{ℕ, ◌+◌, ◌<◌}
 use mathlib.Core.Path.{◌≡◌, refl, sym, ◌∙◌}
 use mathlib.Core.List.{List, [], ◌∷◌, map}
-use native.Mathlib.Omega.{arith}
 use lib.ListN.{get_or}
-use Rattle.std.specs.Prelude.{Option, Some}
+use Rattle.std.specs.Prelude.{Option, Some, None}
+use Rattle.std.specs.Option.{MatchOption}
+use borrow.Author.Rules.{rules}
 use Rattle.octets.specs.Text.{bytes}
 use Rattle.values.specs.Value.{value_at}
 use Rattle.words.specs.WorkingWords.{words_of, which_of}
@@ -25,20 +26,14 @@ told s at h = chosen 0 names numbers (value_at s at) h
 within : (s : List ℕ) (at k : ℕ) → Some k ≡ which_of names (value_at s at) → k < 3
 within s at k h = place-within names (value_at s at) h
 
-pub overflow_cast-result : goal.overflow_cast-result
-unfolding bytes words_of
-overflow_cast-result c = let l = within c.args.s.now c.args.at c.in-Some.k (sym c.in-Some.is ∙ c.which_value.ensures) in omega (arith, l)
+numbered : (s : List ℕ) (at : ℕ) (o : Option ℕ) (r : ℕ) → MatchOption o (r ≡ 0) (λ k. r ≡ k + 1) → o ≡ which_of names (value_at s at) → r ≡ audio_of s at
+numbered s at None r h e = h ∙ told s at e
+numbered s at (Some k) r h e = h ∙ alike (λ (k : ℕ). k + 1) (λ (k : ℕ). get_or numbers k 0) 3 refl k (within s at k e) ∙ told s at e
 
-pub overflow_add-result : goal.overflow_add-result
+pub map_or-requires : goal.map_or-requires
 unfolding bytes words_of
-overflow_add-result c = let l = within c.args.s.now c.args.at c.in-Some.k (sym c.in-Some.is ∙ c.which_value.ensures) in omega (arith, l)
+map_or-requires c = λ k e. let l = within c.args.s.now c.args.at k (sym e ∙ c.which_value.ensures) in search rules
 
-pub returns-in-Some : goal.returns-in-Some
+pub returns : goal.returns
 unfolding bytes words_of
-returns-in-Some c =
-    let e = sym c.in-Some.is ∙ c.which_value.ensures in
-    alike (λ (k : ℕ). k + 1) (λ (k : ℕ). get_or numbers k 0) 3 refl c.in-Some.k (within c.args.s.now c.args.at c.in-Some.k e) ∙ told c.args.s.now c.args.at e
-
-pub returns-in-None : goal.returns-in-None
-unfolding bytes words_of
-returns-in-None c = told c.args.s.now c.args.at (sym c.in-None.is ∙ c.which_value.ensures)
+returns c = numbered c.args.s.now c.args.at c.which_value.result c.map_or.result (search rules) c.which_value.ensures

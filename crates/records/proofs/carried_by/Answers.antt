@@ -10,4 +10,4 @@ returns-then-r-eq-NOTICE c = c.with_year.ensures ∙ sym (carried-is _ c.if-r-eq
 
 pub returns : goal.returns
 unfolding aired_in
-returns c = c.copy_from_slice.ensures.after ∙ sym (carried_other _ c.if-r-eq-NOTICE.false)
+returns c = c.bytes_at.ensures ∙ sym (carried_other _ c.if-r-eq-NOTICE.false)

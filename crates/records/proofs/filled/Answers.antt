@@ -8,7 +8,7 @@ use Rattle.records.proofs.filled.Goals as goal
 
 pub returns : goal.returns
 returns c =
-    let f = c.args.f.now in
+    let f = c.args.field.now in
     let t = c.take_while.ensures in
     count_from_yields_List c.take_while.result _ c.count.ensures.ran
     (YieldsList-from_take_while _ (λ b. not (eqb b 0)) (YieldsList-from_slice f cc) t.closure t.done (λ x b q k. search (rules, tests)))

@@ -11,7 +11,7 @@ use Rattle.records.proofs.is_key.Goals.{then-sent_of-lt-SPAN, else-sent_of-lt-SP
 pub returns-then-is_name : goal.returns-then-is_name
 unfolding key_ok
 returns-then-is_name c =
-    let k = c.args.k.now in
+    let k = c.args.key.now in
     let both : c.if-sent_of-lt-SPAN.value ≡ (ltb (sent_in k) span && zero_filled identity_ok (sender_in k)) = elim c.if-sent_of-lt-SPAN.branch [
       | then-sent_of-lt-SPAN w ↦ asked _ _ _ (lt-ltb _ span (rw c.sent_of.ensures at w.if-sent_of-lt-SPAN.true)) (w.value-is ∙ w.is_name.ensures)
       | else-sent_of-lt-SPAN w ↦ not-asked _ _ _ (le-ltb _ span (rw c.sent_of.ensures at w.if-sent_of-lt-SPAN.false)) (w.value-is ∙ le-ltb _ span w.if-sent_of-lt-SPAN.false)
@@ -21,7 +21,7 @@ returns-then-is_name c =
 pub returns-else-is_name : goal.returns-else-is_name
 unfolding key_ok
 returns-else-is_name c =
-    let k = c.args.k.now in
+    let k = c.args.key.now in
     let both : c.if-sent_of-lt-SPAN.value ≡ (ltb (sent_in k) span && zero_filled identity_ok (sender_in k)) = elim c.if-sent_of-lt-SPAN.branch [
       | then-sent_of-lt-SPAN w ↦ asked _ _ _ (lt-ltb _ span (rw c.sent_of.ensures at w.if-sent_of-lt-SPAN.true)) (w.value-is ∙ w.is_name.ensures)
       | else-sent_of-lt-SPAN w ↦ not-asked _ _ _ (le-ltb _ span (rw c.sent_of.ensures at w.if-sent_of-lt-SPAN.false)) (w.value-is ∙ le-ltb _ span w.if-sent_of-lt-SPAN.false)

@@ -42,17 +42,26 @@ pub add-k-requires : goal.add-k-requires
 add-k-requires c =
     let l = c.loop-r in
     let a = c.args in
-    (omega (arith, grown a.s.now a.batch.now l.s a.n a.m l.r-index l.k c.requires l.invariant (item _ _ _ _ c.first-r-items.ensures c.loop-r-test.true).0, l.invariant.0, l.invariant.1), rw (step a.s.now a.batch.now l.s a.n a.m l.r-index l.k c.requires l.invariant (item _ _ _ _ c.first-r-items.ensures c.loop-r-test.true).0 _ (item _ _ _ _ c.first-r-items.ensures c.loop-r-test.true).1) (omega (arith, grown a.s.now a.batch.now l.s a.n a.m l.r-index l.k c.requires l.invariant (item _ _ _ _ c.first-r-items.ensures c.loop-r-test.true).0, l.invariant.0)), ap length (item _ _ _ _ c.first-r-items.ensures c.loop-r-test.true).1 ∙ length-take-le 384 (drop (l.r-index * 384) a.batch.now) (rw length-drop (omega (arith, (item _ _ _ _ c.first-r-items.ensures c.loop-r-test.true).0, c.requires.1))))
+    let at = item _ _ _ _ c.first-r-items.ensures c.loop-r-test.true in
+    let g = grown a.s.now a.batch.now l.s a.n a.m l.r-index l.k c.requires l.invariant at.0 in
+    let is = step a.s.now a.batch.now l.s a.n a.m l.r-index l.k c.requires l.invariant at.0 _ at.1 in (
+      omega (arith, g, l.invariant.0, l.invariant.1),
+      rw is (omega (arith, g, l.invariant.0)),
+      ap length at.1 ∙ length-take-le 384 (drop (l.r-index * 384) a.batch.now) (rw length-drop (omega (arith, at.0, c.requires.1))),
+    )
 
 pub loop-r-preserved : goal.loop-r-preserved
 loop-r-preserved c =
     let l = c.loop-r in
     let a = c.args in
-    let is = step a.s.now a.batch.now l.s a.n a.m l.r-index l.k c.requires l.invariant (item _ _ _ _ c.first-r-items.ensures c.loop-r-test.true).0 _ (item _ _ _ _ c.first-r-items.ensures c.loop-r-test.true).1 in
-    let count = c.add-k.ensures.value ∙ ap length is in (
+    let at = item _ _ _ _ c.first-r-items.ensures c.loop-r-test.true in
+    let is = step a.s.now a.batch.now l.s a.n a.m l.r-index l.k c.requires l.invariant at.0 _ at.1 in
+    let count = c.add-k.ensures.value ∙ ap length is in
+    let more = batch-grows l.r-index (l.r-index + 1) a.batch.now (recs a.n a.s.now) (omega arith) in
+    let past = rest a.s.now a.batch.now l.s a.n a.m l.r-index l.k c.requires l.invariant at.0 c.add-k.result (omega (arith, count, l.invariant.1, more)) in (
       c.add-k.auto.s ∙ l.invariant.0,
       count,
-      c.add-k.ensures.s_after ∙ ap₂ (λ (x : List (List ℕ)) (y : List ℕ). flat x ++ y) is (rest a.s.now a.batch.now l.s a.n a.m l.r-index l.k c.requires l.invariant (item _ _ _ _ c.first-r-items.ensures c.loop-r-test.true).0 c.add-k.result (omega (arith, count, l.invariant.1, batch-grows l.r-index (l.r-index + 1) a.batch.now (recs a.n a.s.now) (omega arith)))),
+      c.add-k.ensures.s_after ∙ ap₂ (λ (x : List (List ℕ)) (y : List ℕ). flat x ++ y) is past,
     )
 
 pub shape_of-s : goal.shape_of-s
@@ -62,4 +71,9 @@ pub returns : goal.returns
 returns c =
     let l = c.loop-r in
     let a = c.args in
-    let e : l.r-index ≡ a.m = omega (arith, ap length c.first-r-items.ensures, recs-length a.m a.batch.now) in record { value = subst (λ (j : ℕ). l.k ≡ length (insert_all (recs j a.batch.now) (recs a.n a.s.now))) e l.invariant.1; s_after = subst (λ (j : ℕ). l.s ≡ flat (insert_all (recs j a.batch.now) (recs a.n a.s.now)) ++ drop (l.k * 384) a.s.now) e l.invariant.2 }
+    let e : l.r-index ≡ a.m = omega (arith, ap length c.first-r-items.ensures, recs-length a.m a.batch.now) in
+    let whole = λ (j : ℕ). insert_all (recs j a.batch.now) (recs a.n a.s.now) in
+    record {
+      value = subst (λ (j : ℕ). l.k ≡ length (whole j)) e l.invariant.1;
+      s_after = subst (λ (j : ℕ). l.s ≡ flat (whole j) ++ drop (l.k * 384) a.s.now) e l.invariant.2;
+    }

@@ -1,44 +1,27 @@
--- The next attribute's answer decides, and then the way of its name.
-use mathlib.Core.Path.{◌≡◌, sym, ◌∙◌}
-use native.Mathlib.Omega.{arith}
+-- An attribute is taken where the way of its name ends at a free cell.
+use Rattle.std.proofs.Common.{rules, ◌≡◌, refl, ◌∙◌, ℕ, List, ◌-◌, Option, Some, None, is_some}
+use Rattle.octets.specs.Bytes.{pick, part}
+use Rattle.pieces.specs.declared.Step.TheVariants.{Go, Stuck}
 use Rattle.tags.specs.Attributes.{attr_at}
-use Rattle.tags.specs.WorkingTree.{apart, looked, look_at}
+use Rattle.tags.specs.WorkingTree.{way, apart, passed, looked, look_at}
+use Rattle.tags.specs.declared.Attr.{Attr}
 use Rattle.tags.specs.declared.Attr.TheVariants.{Of, Last, Bad}
-use Rattle.tags.proofs.Goes.{Read, attr-read}
 use Rattle.tags.proofs.look.Goals as goal
 
--- the attribute that was read, and that it stays inside
-read : (c : goal.In-Of) → attr_at c.args.s.now c.args.i ≡ Of c.in-Of.name c.in-Of.name_end c.in-Of.value c.in-Of.end
-read c = sym c.attribute.ensures ∙ c.in-Of.is
+free : (x : Option ℕ) (w : ℕ) → pick (is_some x) (Go w) Stuck ≡ apart x w
+unfolding apart
+free (Some v) w = refl
+free None w = refl
 
-inside : (c : goal.In-Of) → Read c.args.s.now c.args.i c.in-Of.name c.in-Of.name_end c.in-Of.end
-inside c = attr-read c.args.s.now c.args.i c.in-Of.name c.in-Of.name_end c.in-Of.value c.in-Of.end (read c)
+as_looked : (s t : List ℕ) (x : Attr) → passed s (λ w j. is_some (way s t w)) x ≡ looked s t x
+unfolding passed looked
+as_looked s t (Of j e v w) = free (way s t (part s j (e - j))) w
+as_looked s t (Last j) = refl
+as_looked s t Bad = refl
 
-pub slice_bounds-place-count : goal.slice_bounds-place-count
-slice_bounds-place-count c = let g = inside c in omega arith
-
-pub slice_bounds-place-start : goal.slice_bounds-place-start
-slice_bounds-place-start c = let g = inside c in omega arith
-
-pub slice_bounds-place-end : goal.slice_bounds-place-end
-slice_bounds-place-end c = let g = inside c in omega arith
-
-pub returns-in-Some : goal.returns-in-Some
-unfolding look_at looked apart
-returns-in-Some c = rw (sym c.attribute.ensures ∙ c.in-Of.is, sym c.place.ensures ∙ c.in-Some.is)
-
-pub returns-in-None : goal.returns-in-None
-unfolding look_at looked apart
-returns-in-None c = rw (sym c.attribute.ensures ∙ c.in-Of.is, sym c.place.ensures ∙ c.in-None.is)
-
-pub returns-in-Last : goal.returns-in-Last
-unfolding look_at looked
-returns-in-Last c =
-    let o : attr_at c.args.s.now c.args.i ≡ Last c.in-Last.j = sym c.attribute.ensures ∙ c.in-Last.is in
-    rw o
-
-pub returns-in-Bad : goal.returns-in-Bad
-unfolding look_at looked
-returns-in-Bad c =
-    let o : attr_at c.args.s.now c.args.i ≡ Bad = sym c.attribute.ensures ∙ c.in-Bad.is in
-    rw o
+pub returns : goal.returns
+unfolding look_at
+returns c =
+    let s = c.args.s.now in
+    let t = c.args.t.now in
+    c.pass.ensures (λ w j. is_some (way s t w)) (λ w j r m. search rules) ∙ as_looked s t (attr_at s c.args.i)

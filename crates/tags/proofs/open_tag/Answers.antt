@@ -35,8 +35,8 @@ pub tail-requires : goal.tail-requires
 tail-requires c =
     let s = c.args.s.now in
     let i = c.args.at in
-    let n : name_at s (i + 1) ≡ Some c.in-Some.a = sym c.name.ensures ∙ c.in-Some.is in
-    (name-goes s (i + 1) c.in-Some.a n).in-it
+    let n : name_at s (i + 1) ≡ Some c.in-Some.name_end = sym c.name.ensures ∙ c.in-Some.is in
+    (name-goes s (i + 1) c.in-Some.name_end n).in-it
 
 pub returns-in-Some : goal.returns-in-Some
 unfolding open_at tailed
@@ -45,7 +45,7 @@ returns-in-Some c =
     let i = c.args.at in
     let b = byte_at s i in
     let f : c.byte.result ≡ b = cc in
-    let n : name_at s (i + 1) ≡ Some c.in-Some.a = sym c.name.ensures ∙ c.in-Some.is in
+    let n : name_at s (i + 1) ≡ Some c.in-Some.name_end = sym c.name.ensures ∙ c.in-Some.is in
     rw (eq-eqb b 60 (omega arith), n) c.tail.ensures
 
 pub returns-in-None : goal.returns-in-None

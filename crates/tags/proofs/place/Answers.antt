@@ -1,54 +1,33 @@
-use Prim.Native.Nat.{ℕ, ◌+◌, ◌*◌}
+use Prim.Native.Nat.{ℕ, ◌+◌, ◌-◌, ◌*◌}
 use mathlib.Core.Path.{◌≡◌, sym, ap, ◌∙◌}
+use mathlib.Core.Bool.{Bool}
+use mathlib.Core.List.{List}
 use native.Mathlib.Omega.{arith}
 use lib.ListN.{get_or}
-use Rattle.octets.specs.Bytes.{same}
+use Rattle.octets.specs.Bytes.{part, same}
 use Rattle.std.specs.Prelude.{Some}
 use Rattle.tags.specs.WorkingTree.{nodes, bit_of, cell_of, node_name}
 use Rattle.tags.proofs.Trees.{turn_small, way-starts, way-met, way-ends, way-moves}
 use Rattle.tags.proofs.place.Goals as goal
 
--- whether w is the node's name
-met : (c : goal.Then-equal) → c.equal.result ≡ same (node_name c.args.s.now c.args.t.now c.loop-k.k) c.args.w.now
+-- whether w is the name of node k, which stands between what its cells hold
+met : (s t w : List ℕ) (k : ℕ) {from to : ℕ} {r : Bool} → r ≡ same (part s from (to - from)) w → from ≡ get_or t (4 * k) 0 → to ≡ get_or t (4 * k + 1) 0 → same (node_name s t k) w ≡ r
 unfolding node_name
-met c = c.equal.ensures ∙ rw (c.cell-from.ensures, c.cell-to.ensures)
-
--- whether w is the node's name
-met-at-Then-next-eq0 : (c : goal.Then-next-eq0) → c.equal.result ≡ same (node_name c.args.s.now c.args.t.now c.loop-k.k) c.args.w.now
-unfolding node_name
-met-at-Then-next-eq0 c = c.equal.ensures ∙ rw (c.cell-from.ensures, c.cell-to.ensures)
+met s t w k e f g = sym (e ∙ rw (f, g))
 
 -- the node in the cell by which the way goes on
-next : (c : goal.Then-next-eq0) → c.cell-next.result ≡ get_or c.args.t.now (cell_of c.args.w.now c.loop-k.d c.loop-k.k) 0
-next c = c.cell-next.ensures ∙ ap (λ (b : ℕ). get_or c.args.t.now (4 * c.loop-k.k + 2 + b) 0) c.turn.ensures
-
--- the node in the cell by which the way goes on
-next-at-Else-next-eq0 : (c : goal.Else-next-eq0) → c.cell-next.result ≡ get_or c.args.t.now (cell_of c.args.w.now c.loop-k.d c.loop-k.k) 0
-next-at-Else-next-eq0 c = c.cell-next.ensures ∙ ap (λ (b : ℕ). get_or c.args.t.now (4 * c.loop-k.k + 2 + b) 0) c.turn.ensures
-
--- whether w is the node's name
-met-at-Else-next-eq0 : (c : goal.Else-next-eq0) → c.equal.result ≡ same (node_name c.args.s.now c.args.t.now c.loop-k.k) c.args.w.now
-unfolding node_name
-met-at-Else-next-eq0 c = c.equal.ensures ∙ rw (c.cell-from.ensures, c.cell-to.ensures)
+next : (t w : List ℕ) (d k : ℕ) {r b : ℕ} → r ≡ get_or t (4 * k + 2 + b) 0 → b ≡ bit_of w d → r ≡ get_or t (cell_of w d k) 0
+next t w d k e f = e ∙ ap (λ (b : ℕ). get_or t (4 * k + 2 + b) 0) f
 
 pub loop-k-init : goal.loop-k-init
 loop-k-init c = way-starts c.args.s.now c.args.t.now c.args.w.now nodes c.requires
-
-pub slice_bounds-equal-count : goal.slice_bounds-equal-count
-slice_bounds-equal-count c = omega (arith, c.cell-from.ensures, c.cell-to.ensures, c.requires.begins c.loop-k.k, c.requires.ends c.loop-k.k)
-
-pub slice_bounds-equal-start : goal.slice_bounds-equal-start
-slice_bounds-equal-start c = omega (arith, c.cell-from.ensures, c.cell-to.ensures, c.requires.begins c.loop-k.k, c.requires.ends c.loop-k.k)
-
-pub slice_bounds-equal-end : goal.slice_bounds-equal-end
-slice_bounds-equal-end c = omega (arith, c.cell-from.ensures, c.cell-to.ensures, c.requires.begins c.loop-k.k, c.requires.ends c.loop-k.k)
 
 pub returns-then-equal : goal.returns-then-equal
 returns-then-equal c =
     let s = c.args.s.now in
     let t = c.args.t.now in
     let w = c.args.w.now in
-    way-met s t w nodes c.requires c.loop-k.d c.loop-k.k c.loop-k.invariant (sym (met c) ∙ c.if-equal.true)
+    way-met s t w nodes c.requires c.loop-k.d c.loop-k.k c.loop-k.invariant (met s t w c.loop-k.k c.equal.ensures c.cell-from.ensures c.cell-to.ensures ∙ c.if-equal.true)
 
 pub overflow_add-x-in-loop-k : goal.overflow_add-x-in-loop-k
 overflow_add-x-in-loop-k c = omega (arith, c.turn.ensures, turn_small c.args.w.now c.loop-k.d)
@@ -63,14 +42,15 @@ returns-then-next-eq0 c =
     let w = c.args.w.now in
     let k = c.loop-k.k in
     let d = c.loop-k.d in
-    ap (λ (b : ℕ). Some (4 * k + 2 + b)) c.turn.ensures ∙ way-ends s t w nodes c.requires d k c.loop-k.invariant (sym (met-at-Then-next-eq0 c) ∙ c.if-equal.false) (sym (next c) ∙ c.if-next-eq0.true)
+    ap (λ (b : ℕ). Some (4 * k + 2 + b)) c.turn.ensures ∙ way-ends s t w nodes c.requires d k c.loop-k.invariant (met s t w k c.equal.ensures c.cell-from.ensures c.cell-to.ensures ∙ c.if-equal.false) (sym (next t w d k c.cell-next.ensures c.turn.ensures) ∙ c.if-next-eq0.true)
 
 pub loop-k-smaller : goal.loop-k-smaller
 loop-k-smaller c =
+    let t = c.args.t.now in
     let w = c.args.w.now in
     let k = c.loop-k.k in
     let d = c.loop-k.d in
-    let x : c.cell-next.result ≡ get_or c.args.t.now (cell_of w d k) 0 = next-at-Else-next-eq0 c in
+    let x : c.cell-next.result ≡ get_or t (cell_of w d k) 0 = next t w d k c.cell-next.ensures c.turn.ensures in
     let y = c.requires.onto k (bit_of w d) (turn_small w d) in
     let z = c.requires.rises k (bit_of w d) (turn_small w d) (omega arith) in
     omega arith
@@ -82,5 +62,5 @@ loop-k-preserved c =
     let w = c.args.w.now in
     let k = c.loop-k.k in
     let d = c.loop-k.d in
-    let x : c.cell-next.result ≡ get_or t (cell_of w d k) 0 = next-at-Else-next-eq0 c in
-    rw x (way-moves s t w nodes c.requires d k c.loop-k.invariant (sym (met-at-Else-next-eq0 c) ∙ c.if-equal.false) (omega arith))
+    let x : c.cell-next.result ≡ get_or t (cell_of w d k) 0 = next t w d k c.cell-next.ensures c.turn.ensures in
+    rw x (way-moves s t w nodes c.requires d k c.loop-k.invariant (met s t w k c.equal.ensures c.cell-from.ensures c.cell-to.ensures ∙ c.if-equal.false) (omega arith))

@@ -23,4 +23,4 @@ at_once s a e =
     rw (w, e)
 
 pub returns-then-byte-eq62 : goal.returns-then-byte-eq62
-returns-then-byte-eq62 c = at_once c.args.s.now c.args.a (sym c.byte.ensures ∙ c.if-byte-eq62.true)
+returns-then-byte-eq62 c = at_once c.args.s.now c.args.name_end (sym c.byte.ensures ∙ c.if-byte-eq62.true)

@@ -19,7 +19,7 @@ use Rattle.tags.proofs.whole_tail.Goals as goal
 pub overflow_add-result : goal.overflow_add-result
 overflow_add-result c =
     let s = c.args.s.now in
-    let a = c.args.a in
+    let a = c.args.name_end in
     let w : walk_at (take_at s a) s a ≡ Some c.in-Some.j = sym c.attributes.ensures ∙ c.in-Some.is in
     let f : c.byte.result ≡ byte_at s c.in-Some.j = cc in
     let h : c.in-Some.j < length s = inside_is s c.in-Some.j 62 (lit< tt) (omega arith) in
@@ -29,7 +29,7 @@ pub returns-then-byte-eq62 : goal.returns-then-byte-eq62
 unfolding tail_at shut_at
 returns-then-byte-eq62 c =
     let s = c.args.s.now in
-    let a = c.args.a in
+    let a = c.args.name_end in
     let w : walk_at (take_at s a) s a ≡ Some c.in-Some.j = sym c.attributes.ensures ∙ c.in-Some.is in
     let f : c.byte.result ≡ byte_at s c.in-Some.j = cc in
     rw (w, eq-eqb (byte_at s c.in-Some.j) 62 (omega arith))
@@ -37,7 +37,7 @@ returns-then-byte-eq62 c =
 pub overflow_add-result-then-stands_at : goal.overflow_add-result-then-stands_at
 overflow_add-result-then-stands_at c =
     let s = c.args.s.now in
-    let a = c.args.a in
+    let a = c.args.name_end in
     let w : walk_at (take_at s a) s a ≡ Some c.in-Some.j = sym c.attributes.ensures ∙ c.in-Some.is in
     let f : c.byte.result ≡ byte_at s c.in-Some.j = cc in
     let y : stands (47 ∷ 62 ∷ []) s c.in-Some.j ≡ true = sym c.stands_at.ensures ∙ c.if-stands_at.true in
@@ -48,7 +48,7 @@ pub returns-then-stands_at : goal.returns-then-stands_at
 unfolding tail_at shut_at bytes
 returns-then-stands_at c =
     let s = c.args.s.now in
-    let a = c.args.a in
+    let a = c.args.name_end in
     let w : walk_at (take_at s a) s a ≡ Some c.in-Some.j = sym c.attributes.ensures ∙ c.in-Some.is in
     let f : c.byte.result ≡ byte_at s c.in-Some.j = cc in
     let y : stands (47 ∷ 62 ∷ []) s c.in-Some.j ≡ true = sym c.stands_at.ensures ∙ c.if-stands_at.true in
@@ -58,7 +58,7 @@ pub returns-else-stands_at : goal.returns-else-stands_at
 unfolding tail_at shut_at bytes
 returns-else-stands_at c =
     let s = c.args.s.now in
-    let a = c.args.a in
+    let a = c.args.name_end in
     let w : walk_at (take_at s a) s a ≡ Some c.in-Some.j = sym c.attributes.ensures ∙ c.in-Some.is in
     let f : c.byte.result ≡ byte_at s c.in-Some.j = cc in
     let y : stands (47 ∷ 62 ∷ []) s c.in-Some.j ≡ false = sym c.stands_at.ensures ∙ c.if-stands_at.false in
@@ -68,6 +68,6 @@ pub returns-in_default : goal.returns-in_default
 unfolding tail_at shut_at
 returns-in_default c =
     let s = c.args.s.now in
-    let a = c.args.a in
+    let a = c.args.name_end in
     let w : walk_at (take_at s a) s a ≡ None = sym c.attributes.ensures ∙ c.in_default.is in
     rw w

@@ -2,6 +2,7 @@
 use Prim.Native.Nat.{ℕ, ◌<◌}
 use mathlib.Core.Path.{◌≡◌, sym, ap, ◌∙◌}
 use native.Mathlib.Omega.{arith}
+use Rattle.std.proofs.Common.{rules}
 use lib.Dec.{eqb}
 use lib.ListN.{length}
 use borrow.Author.Tests.{eq-eqb, ne_eqb}
@@ -35,11 +36,6 @@ pub returns-then-byte-ne33 : goal.returns-then-byte-ne33
 unfolding passed
 returns-then-byte-ne33 c = sym (tag-next _ _ (eq-eqb _ 60 (sym c.byte-b.ensures ∙ c.if-b-ne60.false)) None (no_note _ _ (λ e. c.if-byte-ne33.true (c.byte.ensures ∙ e))))
 
-pub returns-in-Some : goal.returns-in-Some
+pub returns : goal.returns
 unfolding passed
-returns-in-Some c =
-    sym (tag-next _ _ (eq-eqb _ 60 (sym c.byte-b.ensures ∙ c.if-b-ne60.false)) _ (sym c.note.ensures ∙ c.in-Some.is))
-
-pub returns-in-None : goal.returns-in-None
-unfolding passed
-returns-in-None c = sym (tag-next _ _ (eq-eqb _ 60 (sym c.byte-b.ensures ∙ c.if-b-ne60.false)) _ (sym c.note.ensures ∙ c.in-None.is))
+returns c = rw (tag-next _ _ (eq-eqb _ 60 (sym c.byte-b.ensures ∙ c.if-b-ne60.false)) c.note.result (sym c.note.ensures)) (search rules)

@@ -1,19 +1,18 @@
 -- Seven characters show whether the value has six; if so, they are what was copied, and the number is read from the copy.
 use Prim.Native.Nat.{ℕ}
-use mathlib.Core.Path.{◌≡◌, refl, sym, ap, ◌∙◌}
+use mathlib.Core.Path.{◌≡◌, sym, ap, ◌∙◌}
 use mathlib.Core.Bool.{true}
 use mathlib.Core.List.{List, [], ◌∷◌, map}
 use native.Mathlib.Omega.{arith}
 use borrow.Author.Tests.{eq-eqb, ne_eqb}
-use lib.ListN.{length, take, length-take}
-use lib.Seq.{sets}
+use lib.ListN.{length, take, length-take, length-map}
+use lib.Seq.{take_all}
 use Rattle.octets.specs.Bytes.{every, part, is_digit}
 use Rattle.octets.specs.Digits.{all_digits, value, num_of}
 use Rattle.std.specs.Prelude.{Some, None}
 use Rattle.octets.proofs.Tests.{every-none, every-step, every_first, every_rest, between_is, between-low, between-high}
-use Rattle.values.specs.Value.{value_at}
 use Rattle.values.specs.WorkingSteps.{low, six_digits}
-use Rattle.values.proofs.Copies.{room, kept, whole, is_kept, low-pick}
+use Rattle.values.proofs.Copies.{is_kept, low-pick}
 use Rattle.values.proofs.six_digits.Goals as goal
 
 six-not : (v : List ℕ) → (length (take 7 v) ≡ 6 → ⊥) → None ≡ six_digits v
@@ -32,18 +31,15 @@ num-low : (v : List ℕ) → num_of (map low v) ≡ num_of v
 unfolding num_of
 num-low v = low-pick all_digits digits-kept v (λ w. Some (value w)) None
 
-six-are : (v d x : List ℕ) → length d ≡ 7 → x ≡ sets d 0 (map low (take 7 v)) → length (take 7 v) ≡ 6 → num_of (part x 0 6) ≡ six_digits v
+six-are : (v w : List ℕ) → w ≡ map low (take 7 v) → length w ≡ 6 → num_of (part w 0 6) ≡ six_digits v
 unfolding six_digits
-six-are v d x l e h =
-    let w : take 7 v ≡ v = whole 7 v (omega arith) in
-    let n : length v ≡ 6 = ap length (sym w) ∙ h in
-    rw (eq-eqb (length v) 6 n, kept 7 v 6 d x h (omega arith) e, w) (num-low v)
+six-are v w e h =
+    let l : length (take 7 v) ≡ 6 = sym (length-map (take 7 v) low) ∙ ap length (sym e) ∙ h in
+    let n : length v ≡ 6 = omega (arith, simp length-take at l) in
+    rw (eq-eqb (length v) 6 n) (ap num_of (take_all 6 w (omega arith) ∙ e ∙ ap (map low) (take_all 7 v (omega arith))) ∙ num-low v)
 
-pub copy-requires : goal.copy-requires
-copy-requires c = room 7 (value_at c.args.s.now c.args.at) 0 7 (omega arith)
-
-pub returns-then-copy-ne6 : goal.returns-then-copy-ne6
-returns-then-copy-ne6 c = six-not _ (λ e. c.if-copy-ne6.true (c.copy.ensures.value ∙ e))
+pub returns-then-digits-ne6 : goal.returns-then-digits-ne6
+returns-then-digits-ne6 c = six-not _ (λ e. c.if-digits-ne6.true (ap length c.front-digits.ensures ∙ length-map _ low ∙ e))
 
 pub returns : goal.returns
-returns c = c.number.ensures ∙ six-are _ _ _ refl c.copy.ensures.out_after (sym c.copy.ensures.value ∙ c.if-copy-ne6.false)
+returns c = c.number.ensures ∙ six-are _ _ c.front-digits.ensures c.if-digits-ne6.false

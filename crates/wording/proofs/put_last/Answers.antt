@@ -24,20 +24,20 @@ returns-then-exceeds c =
     let both = pen-all (pen-first a.out.now a.pen (bytes "***") (c.put_words.ensures.value, c.put_words.ensures.out_after)) _ (last_more left (sym c.exceeds.ensures ∙ c.if-exceeds.true)) in
     record { value = both.0; out_after = both.1 }
 
-pub spell-r-requires : goal.spell-r-requires
-spell-r-requires c =
+pub spell-spelled-requires : goal.spell-spelled-requires
+spell-spelled-requires c =
     let left = rest_at c.args.s.now c.args.i in
     room_for c.requires (take 3 left) (omega (arith, ap length (last-three left (sym c.exceeds.ensures ∙ c.if-exceeds.false))))
 
 pub overflow_add-result : goal.overflow_add-result
 overflow_add-result c =
     let left = rest_at c.args.s.now c.args.i in
-    omega (arith, c.requires.short, count-is _ _ _ _ _ left refl c.spell-r.ensures.value, ap length (last-three left (sym c.exceeds.ensures ∙ c.if-exceeds.false)))
+    omega (arith, c.requires.short, count-is _ _ _ _ _ left refl c.spell-spelled.ensures.value, ap length (last-three left (sym c.exceeds.ensures ∙ c.if-exceeds.false)))
 
 pub returns : goal.returns
 returns c =
     let a = c.args in
     let left = rest_at a.s.now a.i in
-    let three = spelled-put _ _ _ _ _ left refl c.spell-r.ensures.value a.out.now a.pen.count _ refl c.spell-r.ensures.out_after in
+    let three = spelled-put _ _ _ _ _ left refl c.spell-spelled.ensures.value a.out.now a.pen.count _ refl c.spell-spelled.ensures.out_after in
     let both = pen-all (pen-first a.out.now a.pen (take 3 left) three) _ (last-three left (sym c.exceeds.ensures ∙ c.if-exceeds.false)) in
     record { value = both.0; out_after = both.1 }

@@ -14,14 +14,14 @@ pub returns-then-is_empty : goal.returns-then-is_empty
 returns-then-is_empty c =
     let a = c.args in
     let v = value_at a.s.now a.p in
-    let both = pen-all (pen-none a.out.now a.pen) _ (part_none a.g v (none-long v (sym c.is_empty.ensures ∙ c.if-is_empty.true))) in
+    let both = pen-all (pen-none a.out.now a.pen) _ (part_none a.allotment v (none-long v (sym c.is_empty.ensures ∙ c.if-is_empty.true))) in
     record { value = both.0; out_after = both.1 }
 
-pub put_spaced-a-requires : goal.put_spaced-a-requires
-put_spaced-a-requires c =
+pub put_spaced-front-requires : goal.put_spaced-front-requires
+put_spaced-front-requires c =
     let v = value_at c.args.s.now c.args.p in
     let room = c.requires.room in
-    let two = part-some c.args.g _ v c.requires.le_g (sym c.is_empty.ensures ∙ c.if-is_empty.false) c.saturating_sub.ensures in
+    let two = part-some c.args.allotment _ v c.requires.le_allotment (sym c.is_empty.ensures ∙ c.if-is_empty.false) c.saturating_sub.ensures in
     room_of_lem room _ (omega (arith, room.short, ap length two, length-append (32 ∷ take c.saturating_sub.result v) (last_of (drop c.saturating_sub.result v))))
 
 pub put_last-requires : goal.put_last-requires
@@ -29,18 +29,18 @@ put_last-requires c =
     let a = c.args in
     let v = value_at a.s.now a.p in
     let n = c.saturating_sub.result in
-    let two = part-some a.g _ v c.requires.le_g (sym c.is_empty.ensures ∙ c.if-is_empty.false) c.saturating_sub.ensures in
-    let put = pen-first a.out.now a.pen (32 ∷ take n v) (c.put_spaced-a.ensures.pen_value, c.put_spaced-a.ensures.out_after) in
+    let two = part-some a.allotment _ v c.requires.le_allotment (sym c.is_empty.ensures ∙ c.if-is_empty.false) c.saturating_sub.ensures in
+    let put = pen-first a.out.now a.pen (32 ∷ take n v) (c.put_spaced-front.ensures.pen_value, c.put_spaced-front.ensures.out_after) in
     room-past c.requires.room put _
-    (omega (arith, ap length two, length-append (32 ∷ take n v) (last_of (drop n v)), ap (λ (w : List ℕ). length (last_of w)) c.put_spaced-a.ensures.next_value))
+    (omega (arith, ap length two, length-append (32 ∷ take n v) (last_of (drop n v)), ap (λ (w : List ℕ). length (last_of w)) c.put_spaced-front.ensures.next_value))
 
 pub returns : goal.returns
 returns c =
     let a = c.args in
     let v = value_at a.s.now a.p in
     let n = c.saturating_sub.result in
-    let two = part-some a.g _ v c.requires.le_g (sym c.is_empty.ensures ∙ c.if-is_empty.false) c.saturating_sub.ensures in
-    let put = pen-first a.out.now a.pen (32 ∷ take n v) (c.put_spaced-a.ensures.pen_value, c.put_spaced-a.ensures.out_after) in
+    let two = part-some a.allotment _ v c.requires.le_allotment (sym c.is_empty.ensures ∙ c.if-is_empty.false) c.saturating_sub.ensures in
+    let put = pen-first a.out.now a.pen (32 ∷ take n v) (c.put_spaced-front.ensures.pen_value, c.put_spaced-front.ensures.out_after) in
     let both = pen-all (pen-next put _ (c.put_last.ensures.value, c.put_last.ensures.out_after)) _
-    (two ∙ ap (λ (w : List ℕ). (32 ∷ take n v) ++ last_of w) (sym c.put_spaced-a.ensures.next_value)) in
+    (two ∙ ap (λ (w : List ℕ). (32 ∷ take n v) ++ last_of w) (sym c.put_spaced-front.ensures.next_value)) in
     record { value = both.0; out_after = both.1 }

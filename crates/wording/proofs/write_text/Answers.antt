@@ -50,33 +50,33 @@ put_sentence-n-requires c =
     let in_order = has c.args.b c.requires.b_value in
     record { at_in_bounds = omega (arith, c.requires.in_bounds); le_count = (in_order.some, in_order.few) }
 
-pub put_plain-e-requires : goal.put_plain-e-requires
-put_plain-e-requires c =
+pub put_plain-behind_eas-requires : goal.put_plain-behind_eas-requires
+put_plain-behind_eas-requires c =
     let a = c.args in
     let one = begun a.b c.requires.b_value a.out.now c.put_sentence-n.ensures.value c.put_sentence-n.ensures.out_after in
     room-past (room-start a.out.now c.requires.in_bounds) one _ (omega (arith, short a.b c.requires.b_value))
 
-pub returns-then-e-n : goal.returns-then-e-n
-returns-then-e-n c =
+pub returns-then-behind_eas-n : goal.returns-then-behind_eas-n
+returns-then-behind_eas-n c =
     let a = c.args in
     let s = a.s.now in
-    let put = said a.b c.requires.b_value a.out.now c.put_sentence-n.ensures.value c.put_sentence-n.ensures.out_after (value_at s a.eas) (c.put_plain-e.ensures.value, c.put_plain-e.ensures.out_after) in
-    let there = value_there (value_at s a.eas) _ c.put_plain-e.ensures.value c.if-e-n.true in
+    let put = said a.b c.requires.b_value a.out.now c.put_sentence-n.ensures.value c.put_sentence-n.ensures.out_after (value_at s a.eas) (c.put_plain-behind_eas.ensures.value, c.put_plain-behind_eas.ensures.out_after) in
+    let there = value_there (value_at s a.eas) _ c.put_plain-behind_eas.ensures.value c.if-behind_eas-n.true in
     let both = pen-start put _ (text-eas (sentence_of a.b) (value_at s a.eas) (value_at s a.sender) (value_at s a.description) (value_at s a.instruction) there) in
     record { value = both.0; out_after = both.1 }
 
-pub put_phrase-f-requires : goal.put_phrase-f-requires
-put_phrase-f-requires c =
+pub put_phrase-behind_phrase-requires : goal.put_phrase-behind_phrase-requires
+put_phrase-behind_phrase-requires c =
     let a = c.args in
-    let put = still a.b c.requires.b_value a.out.now c.put_sentence-n.ensures.value c.put_sentence-n.ensures.out_after (value_at a.s.now a.eas) (c.put_plain-e.ensures.value, c.put_plain-e.ensures.out_after) c.if-e-n.false in
+    let put = still a.b c.requires.b_value a.out.now c.put_sentence-n.ensures.value c.put_sentence-n.ensures.out_after (value_at a.s.now a.eas) (c.put_plain-behind_eas.ensures.value, c.put_plain-behind_eas.ensures.out_after) c.if-behind_eas-n.false in
     room-past (room-start a.out.now c.requires.in_bounds) put _ (omega (arith, short a.b c.requires.b_value))
 
 pub put_parts-requires : goal.put_parts-requires
 put_parts-requires c =
     let a = c.args in
     let sender = value_at a.s.now a.sender in
-    let put = named a.b c.requires.b_value a.out.now c.put_sentence-n.ensures.value c.put_sentence-n.ensures.out_after (value_at a.s.now a.eas) (c.put_plain-e.ensures.value, c.put_plain-e.ensures.out_after)
-    c.if-e-n.false sender (c.put_phrase-f.ensures.value, c.put_phrase-f.ensures.out_after) in
+    let put = named a.b c.requires.b_value a.out.now c.put_sentence-n.ensures.value c.put_sentence-n.ensures.out_after (value_at a.s.now a.eas) (c.put_plain-behind_eas.ensures.value, c.put_plain-behind_eas.ensures.out_after)
+    c.if-behind_eas-n.false sender (c.put_phrase-behind_phrase.ensures.value, c.put_phrase-behind_phrase.ensures.out_after) in
     room-past (room-start a.out.now c.requires.in_bounds) put _ (omega (arith, short a.b c.requires.b_value, phrase-le sender, length-append (sentence_of a.b) (after_space (phrase sender))))
 
 pub returns : goal.returns
@@ -87,10 +87,10 @@ returns c =
     let before = front (sentence_of a.b) (value_at s a.sender) in
     let vd = value_at s a.description in
     let vi = value_at s a.instruction in
-    let put = named a.b c.requires.b_value a.out.now c.put_sentence-n.ensures.value c.put_sentence-n.ensures.out_after eas (c.put_plain-e.ensures.value, c.put_plain-e.ensures.out_after)
-    c.if-e-n.false (value_at s a.sender) (c.put_phrase-f.ensures.value, c.put_phrase-f.ensures.out_after) in
-    let no_eas = none a.b c.requires.b_value a.out.now c.put_sentence-n.ensures.value c.put_sentence-n.ensures.out_after eas (c.put_plain-e.ensures.value, c.put_plain-e.ensures.out_after) c.if-e-n.false in
-    let n : c.put_phrase-f.result.count ≡ length before = omega (arith, pen-count start_pen before put.ends) in
-    let both = pen-start (pen-next put (last_parts c.put_phrase-f.result.count vd vi) (c.put_parts.ensures.value, c.put_parts.ensures.out_after)) _
+    let put = named a.b c.requires.b_value a.out.now c.put_sentence-n.ensures.value c.put_sentence-n.ensures.out_after eas (c.put_plain-behind_eas.ensures.value, c.put_plain-behind_eas.ensures.out_after)
+    c.if-behind_eas-n.false (value_at s a.sender) (c.put_phrase-behind_phrase.ensures.value, c.put_phrase-behind_phrase.ensures.out_after) in
+    let no_eas = none a.b c.requires.b_value a.out.now c.put_sentence-n.ensures.value c.put_sentence-n.ensures.out_after eas (c.put_plain-behind_eas.ensures.value, c.put_plain-behind_eas.ensures.out_after) c.if-behind_eas-n.false in
+    let n : c.put_phrase-behind_phrase.result.count ≡ length before = omega (arith, pen-count start_pen before put.ends) in
+    let both = pen-start (pen-next put (last_parts c.put_phrase-behind_phrase.result.count vd vi) (c.put_parts.ensures.value, c.put_parts.ensures.out_after)) _
     (text-parts (sentence_of a.b) eas (value_at s a.sender) vd vi no_eas ∙ ap (λ (k : ℕ). before ++ last_parts k vd vi) (sym n)) in
     record { value = both.0; out_after = both.1 }

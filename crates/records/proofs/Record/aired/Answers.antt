@@ -3,4 +3,4 @@ use Rattle.records.proofs.Making.{aired-made}
 use Rattle.records.proofs.Record.aired.Goals as goal
 
 pub returns : goal.returns
-returns c = aired-made _ _ c.requires c.put_bytes.ensures
+returns c = aired-made _ _ c.requires c.of_kind.ensures

@@ -26,4 +26,4 @@ pub returns : goal.returns
 unfolding bytes
 returns c =
     named (then (then (then (then (then c.put_numbered.ensures c.put_numbered-2.ensures) c.put_numbered-3.ensures) c.put_numbered-4.ensures) c.put_numbered-5.ensures) c.put.ensures)
-    _ (when-is c.args.period c.args.day c.args.hour c.args.minute)
+    _ (when-is c.args.b.now.period c.args.b.now.day c.args.b.now.hour c.args.b.now.minute)
