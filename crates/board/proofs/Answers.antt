@@ -1,4 +1,5 @@
 -- What an offer, a hand-out and the list answer, from what the code has found.
+--     best-of-marked, rows-of-marked              the best and the rows of marked records
 --     offer-bad, offer-full, offer-taken, ..      an offer of records
 --     hand-bad, hand-none, hand-full, hand-given  a hand-out
 --     list-bad, list-short, list-given            the list
@@ -31,6 +32,15 @@ use Rattle.board.specs.WorkingCalls.{offer_refused, offer_to, offer_of, hand_ref
 use Rattle.board.specs.Calls.{Listing}
 use Rattle.board.proofs.Boards.{board-recs, board-within, kept-rules, encoded}
 use Rattle.board.proofs.Finds.{Found, none, found, find, start-due, due-most}
+
+-- ---- what is found for the first k records of b, where they are the first n of s
+
+module _ (k n : ℕ) (b s : List ℕ) where
+  pub best-of-marked : (j : ℕ) → k ≡ n → b ≡ s → j ≡ best_of k (after (recs k b) []) (recs k b) → j ≡ best_of n (after (recs n s) []) (recs n s)
+  best-of-marked j e f h = h ∙ ap₂ (λ (x : ℕ) (y : List ℕ). best_of x (after (recs x y) []) (recs x y)) e f
+
+  pub rows-of-marked : k ≡ n → b ≡ s → rows_of (recs k b) ≡ rows_of (recs n s)
+  rows-of-marked e f = ap₂ (λ (x : ℕ) (y : List ℕ). rows_of (recs x y)) e f
 
 -- ---- an offer
 

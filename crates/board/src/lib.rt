@@ -1,7 +1,7 @@
 // The board in lent bytes: its rules, an offer of records, the hand-out of the first due header, and the list of the due headers.
 #![tactic(auto)]
 
-ghost use Rattle.std.specs.Prelude.{◌≡◌, true, false, [], ◌+◌, ◌*◌, ◌≤◌, ◌<◌, length, take, MatchResult};
+ghost use Rattle.std.specs.Prelude.{◌≡◌, true, false, ◌+◌, ◌*◌, ◌≤◌, ◌<◌, length, take, MatchResult};
 ghost use Rattle.std.proofs.lemmas.List.Edits.{sets};
 ghost use Rattle.octets.specs.Bytes.{every};
 ghost use Rattle.records.specs.Record.{record_ok, carried, aired};
@@ -256,7 +256,7 @@ impl<'a> Marked<'a> {
         ensures upper_bound { result ≤ self.now.n }
     {
         let mut count = 0;
-        // By index, as in first_after.
+        // Counted by hand: under `filter` and `count` it was not proved that the number is `count_of`.
         for i in 0..self.n {
             if self.alike(j, i) {
                 count += 1;
@@ -264,17 +264,33 @@ impl<'a> Marked<'a> {
         }
         count
     }
+
+    // The rows of the due headers.
+    fn due_rows(&self) -> Rows
+        ensures number_value { result.answer.number ≡ 0 }
+        ensures count_value { result.answer.count ≡ length (rows_of (recs self.now.n self.now.s.now)) }
+        ensures rows_value { take result.answer.count result.rows ≡ rows_of (recs self.now.n self.now.s.now) }
+        ensures count_bound { result.answer.count ≤ 170 }
+    {
+        let mut rows = NO_ROWS;
+        let mut count = 0;
+        let mut next = self.first_after(&[]);
+        while let Some(j) = next {
+            rows[count] = Row {
+                index: j,
+                count: self.count_alike(j),
+            };
+            count += 1;
+            next = self.next_after(j);
+        }
+        Rows {
+            answer: Listed { number: 0, count },
+            rows,
+        }
+    }
 }
 
 // ---- the hand-out
-
-// The index of the smallest notice that makes the first due header due.
-fn first_due(s: &[u8], n: usize) -> Option<usize>
-    requires { (n * 384 ≤ length s.now) × (n ≤ 170) }
-    ensures { Scanned n (after (recs n s.now) []) (recs n s.now) result }
-{
-    Marked::new(s, n).first_after(&[])
-}
 
 // Adds the aired record of record j's header to the first n records.
 fn air(s: &mut [u8], n: usize, j: usize)
@@ -292,7 +308,7 @@ fn air_first(s: &mut [u8]) -> Result<usize, u32>
     ensures number_bound { ((handed_of result).number ≤ 17) × ((handed_of result).index < 170) }
 {
     let n = board_count(s)?;
-    let Some(j) = first_due(s, n) else {
+    let Some(j) = Marked::new(s, n).first_after(&[]) else {
         return Err(16);
     };
     if s.len() < (n + 1) * Record::SIZE {
@@ -316,39 +332,13 @@ pub fn hand_out(s: &mut [u8]) -> Handed
 
 // ---- the list
 
-// The rows of the due headers among the first n records.
-fn due_rows(s: &[u8], n: usize) -> Rows
-    requires { (n * 384 ≤ length s.now) × (n ≤ 170) }
-    ensures number_value { result.answer.number ≡ 0 }
-    ensures count_value { result.answer.count ≡ length (rows_of (recs n s.now)) }
-    ensures rows_value { take result.answer.count result.rows ≡ rows_of (recs n s.now) }
-    ensures count_bound { result.answer.count ≤ 170 }
-{
-    let marked = Marked::new(s, n);
-    let mut rows = NO_ROWS;
-    let mut count = 0;
-    let mut next = marked.first_after(&[]);
-    while let Some(j) = next {
-        rows[count] = Row {
-            index: j,
-            count: marked.count_alike(j),
-        };
-        count += 1;
-        next = marked.next_after(j);
-    }
-    Rows {
-        answer: Listed { number: 0, count },
-        rows,
-    }
-}
-
 // The rows of the due headers where so many may be lent, or the number of a refusal.
 fn rows_within(s: &[u8], room: usize) -> Result<Rows, u32>
     ensures value { MatchResult result (λ due. (due.answer ≡ (list_of s.now room).answer) × (take due.answer.count due.rows ≡ (list_of s.now room).rows)) (λ number. list_of s.now room ≡ list_refused number) }
     ensures number_bound { MatchResult result (λ due. (due.answer.number ≤ 17) × (due.answer.count ≤ 170)) (λ number. number ≤ 17) }
 {
     let n = board_count(s)?;
-    let due = due_rows(s, n);
+    let due = Marked::new(s, n).due_rows();
     if room < due.answer.count {
         return Err(2);
     }

@@ -66,7 +66,7 @@ fn write(s: &[u8], m: Message, text: &mut [u8], uri: &mut [u8]) -> TextAudio
 }
 
 // Converts a message, as `convert::text` does without a station, a quiet Cancel or a header: numbers 2, 4 to 9 and 18, and the text and the uri
-// from the start of each output, or nothing.
+// from the start of each output, or nothing. Not one function with it: what the two share stands in crate outputs.
 pub fn convert(message: &[u8], text: &mut [u8], uri: &mut [u8]) -> TextAudio
     ensures value { result ≡ text_answer_of (canadian_of message.now (length text.old) (length uri.old)) }
     ensures text_after { text.new ≡ sets text.old 0 (canadian_of message.now (length text.old) (length uri.old)).given.text }

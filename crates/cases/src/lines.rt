@@ -68,7 +68,7 @@ pub(crate) fn lent<'a>(t: &[u8], room: &'a mut [u8]) -> Option<&'a mut [u8]> {
 
 // ---- answered
 
-// Bytes put one behind the other. What does not fit is left out.
+// Bytes put one behind the other. What does not fit is left out. Of fixed size and no Vec: nothing here allocates.
 #[derive(Drop)]
 pub struct Buffer<const N: usize> {
     bytes: [u8; N],

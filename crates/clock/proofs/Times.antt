@@ -3,6 +3,7 @@
 use mathlib.Core.Path.{◌≡◌, refl, sym, ap, ap₂, ◌∙◌}
 use mathlib.Core.List.{List}
 use mathlib.Core.Bool.{Bool, true, false}
+use mathlib.Core.Logic.{◌≢◌}
 use Prim.Native.Nat.{ℕ, ◌+◌, ◌*◌, ◌≤◌, ◌<◌, ◌^◌}
 use native.Mathlib.Omega.{arith}
 use borrow.Author.Tests.{eq-eqb, ltb-true, le-ltb}
@@ -11,7 +12,8 @@ use lib.IntN.{ℤ, pos, negsuc, nat_abs, ◌*ℤ◌}
 use lib.Signed.{mag}
 use Rattle.std.specs.Bool.{then_some}
 use Rattle.std.specs.Int.{FitsUnsignedBits}
-use Rattle.std.specs.Result.{OkIff, result_ok}
+use Rattle.std.specs.Array.{IsWholeChunk}
+use Rattle.std.specs.Result.{MatchResult, OkIff, result_ok}
 use Rattle.std.specs.Prelude.{Result, Ok, Err}
 use lib.Dec.{ltb, eqb}
 use mir.Syntax.{w64}
@@ -28,6 +30,19 @@ use Rattle.clock.proofs.Pieces.{read_is, date-under, second-under, zone-under}
 pub time-no : (i : ℕ) (t : List ℕ) → get_or (time_tests t) i true ≡ false → time_of t ≡ None
 unfolding time_of
 time-no i t h = passed_over _ _ _ (one-fails i (time_tests t) h)
+
+-- ---- a slice lent as an array of n bytes: r is what the conversion of t gives
+
+abbrev pub Lent : {A E : Type 0} → Result A E → (A → List ℕ) → List ℕ → ℕ → Type 0
+Lent r now t n = MatchResult r (λ y. IsWholeChunk t (now y) n) (λ _. length t ≢ n)
+
+pub lent-not : {A E : Type 0} (r : Result A E) (now : A → List ℕ) (t : List ℕ) (n : ℕ) → Lent r now t n → None ≡ result_ok r → length t ≢ n
+lent-not (Ok y) now t n h e = let z : ◌≡◌ {A = ℕ} 0 1 = cc in absurd (omega arith)
+lent-not (Err d) now t n h e = h
+
+pub lent-is : {A E : Type 0} (r : Result A E) (now : A → List ℕ) (t : List ℕ) (y : A) (n : ℕ) → Lent r now t n → Some y ≡ result_ok r → (length t ≡ n) × (now y ≡ t)
+lent-is (Ok x) now t y n h e = let s = h.same in let q : y ≡ x = cc in (h.long, ap now q ∙ s)
+lent-is (Err d) now t y n h e = let z : ◌≡◌ {A = ℕ} 0 1 = cc in absurd (omega arith)
 
 -- ---- in 2000 to 2099 or not: r is the conversion that the code tries, to 32 bits
 

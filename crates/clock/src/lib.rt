@@ -69,8 +69,7 @@ fn days_to(year: u32) -> u32
 // ---- from a time to its instant
 
 // `YYYY-MM-DD` at the start: the days before it.
-fn date(t: &[u8]) -> Option<u32>
-    requires { 25 ≤ length t.now }
+fn date(t: &[u8; 25]) -> Option<u32>
     ensures { result ≡ reads (date_tests t.now) (date_of t.now) }
 {
     let year = octets::ranged(t, 0, 4, 0, 9999)?;
@@ -101,8 +100,7 @@ fn minutes(t: &[u8], at: usize, most: u32) -> Option<u32>
 }
 
 // `Thh:mm:ss` behind the date, in seconds of the day.
-fn second(t: &[u8]) -> Option<u32>
-    requires { 25 ≤ length t.now }
+fn second(t: &[u8; 25]) -> Option<u32>
     ensures { result ≡ reads (second_tests t.now) (second_of t.now) }
 {
     if t[10] != b'T' {
@@ -124,8 +122,7 @@ fn is_sign(b: u8) -> bool
 }
 
 // `+zh:zm` or `-zh:zm` at the end: the minutes behind the sign.
-fn zone(t: &[u8]) -> Option<u32>
-    requires { 25 ≤ length t.now }
+fn zone(t: &[u8; 25]) -> Option<u32>
     ensures { result ≡ reads (zone_tests t.now) (minutes_of t.now 20) }
 {
     if !is_sign(t[19]) {
@@ -172,9 +169,7 @@ fn in_span(t: i64) -> Option<u32>
 pub fn instant(t: &[u8]) -> Option<u32>
     ensures { result ≡ time_of t.now }
 {
-    if t.len() != 25 {
-        return None;
-    }
+    let t = <&[u8; 25]>::try_from(t).ok()?;
     let days = date(t)?;
     let seconds = second(t)?;
     let behind = zone(t)?;

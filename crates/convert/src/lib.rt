@@ -96,6 +96,7 @@ pub fn header(message: &[u8], station: &[u8], out: &mut [u8]) -> Headed
 
 // ---- text and audio
 
+// What is asked of the body is asked of each writer, and no struct has it: a judgement is a value that callers take apart, refused or not.
 fn put_text(s: &[u8], j: Judged, out: &mut [u8]) -> usize
     requires in_bounds { 7200 ≤ length out.old }
     requires body_value { body_ok j.body ≡ true }

@@ -164,7 +164,7 @@ fn keep(out: &mut [u8], k: usize, c: u8)
 }
 
 // The next word of a value from a place in it; as much of it as there is room for is put into `out`, each character as one byte.
-// Not an iterator's loop: each step tells where the next character stands.
+// Not an iterator's loop: each step tells where the next character stands. A length and no slice: `word_at` has that of a longer word, too.
 pub fn next_word(s: &[u8], at: usize, out: &mut [u8]) -> Word
     ensures value { result ≡ word_at s.now at }
     ensures out_after { out.new ≡ sets out.old 0 (map low (word_in s.now at)) }

@@ -62,7 +62,8 @@ fn touch_leaf(c: Context, t: Touch, st: &mut State)
 
 // ---- the end of an element that is no leaf
 
-// An eventCode, a parameter, a geocode or a resource: its two leaves add what they say, and a pair is read anew.
+// An eventCode, a parameter, a geocode or a resource: its two leaves add what they say, and a pair is read anew. By the kind of element, and no closure: each arm
+// has its own field of the info.
 #[tactic(auto, unfolding(crate::specs::WorkingVisit::pair_added))]
 fn leave_pair(s: &[u8], k: Context, st: &mut State)
     ensures { st.new ≡ pair_left s.now k st.old }

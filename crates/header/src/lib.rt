@@ -233,7 +233,7 @@ fn put_times(out: &mut [u8], at: usize, b: &Body)
     octets::put_byte(out, at + 13, b'-');
 }
 
-// The header through the dash after JJJHHMM, from `at`.
+// The header through the dash after JJJHHMM, from `at`. The count is asked for here, and no invariant of Body: parts that no header has are a Body, too.
 pub fn put_body(out: &mut [u8], at: usize, b: Body)
     requires count_bound { b.count ≤ 31 }
     requires count_in_bounds { at + (26 + 7 * b.count) ≤ length out.old }

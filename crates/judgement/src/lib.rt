@@ -4,7 +4,7 @@
 ghost use Rattle.std.specs.Prelude.{◌≡◌, ◌<◌, ◌-◌};
 ghost use Rattle.octets.specs.Bytes.{every, holds};
 ghost use Rattle.clock.specs.Time.{span};
-ghost use Rattle.judgement.specs.WorkingRules.{asks_references, referenced, lacks_references, event_of, origin_of, located, seconds_to, unplaced, complete, is_cancel, quiet_of};
+ghost use Rattle.judgement.specs.WorkingRules.{asks_references, referenced, lacks_references, event_of, origin_of, located, seconds_to, unplaced, complete, quiet_of};
 ghost use Rattle.judgement.specs.WorkingJudged.{without, refused_before, body_with, answered, alerted, judged_of};
 
 use fields::MsgType;
@@ -105,22 +105,16 @@ fn is_complete(m: Message) -> bool
     ensures { result ≡ every holds (complete m) }
 {
     let info = m.alert.info;
-    if reads::is_nothing(m.alert.kept) || info.events.same.count == 0 {
-        return false;
-    }
-    !is_unplaced(info.locations) && info.leaf[reads::EXPIRES].count != 0
-}
-
-fn is_cancel(t: MsgType) -> bool
-    ensures { result ≡ is_cancel t }
-{
-    matches!(t, MsgType::Cancel)
+    !reads::is_nothing(m.alert.kept)
+        && info.events.same.count != 0
+        && !is_unplaced(info.locations)
+        && info.leaf[reads::EXPIRES].count != 0
 }
 
 fn is_quiet(m: Message) -> bool
     ensures { result ≡ quiet_of m }
 {
-    is_cancel(m.msg_type) && !is_complete(m)
+    m.msg_type == MsgType::Cancel && !is_complete(m)
 }
 
 // ---- the judgement
@@ -144,6 +138,7 @@ pub fn refused(n: usize, number: u32) -> Judged
     no_header(message::refused(n, number), number, false)
 }
 
+// sent is a number, with what `stamp_of` asks of it: the definitions take it so.
 fn body_with(o: Originator, event: [u8; 3], l: Locations, seconds: u32, sent: u32) -> Body
     requires { sent < span }
     ensures { result ≡ body_with o event l seconds sent }

@@ -8,7 +8,7 @@ ghost use Rattle.markup.specs.Document.{in_declaration, declaration_at, misc_ste
 
 use pieces::Step;
 
-// How many bytes the character at i has, if the declaration goes on there; else 0.
+// How many bytes the character at i has, if the declaration goes on there; else 0: a width and no Option, as `pieces::through` takes it.
 fn in_declaration(s: &[u8], i: usize) -> usize
     ensures { result ≡ pick (in_declaration s.now i) (coded_width s.now i) 0 }
 {

@@ -169,14 +169,12 @@ fn is_root(s: &[u8], p: &[u8], lead: &[u8], rest: &[u8], from: usize, to: usize)
     ensures { result ≡ root_with s.now p.now (lead.now ++ rest.now) from to }
 {
     let at = reads::local(s, p, from, to);
-    if !octets::equal(&s[at..to], b"alert") {
-        return false;
-    }
-    tags::find(s, lead, rest, to, s.len()).is_some_and(|q| tags::value_is(
-        s,
-        q,
-        b"urn:oasis:names:tc:emergency:cap:1.2",
-    ))
+    octets::equal(&s[at..to], b"alert")
+        && tags::find(s, lead, rest, to, s.len()).is_some_and(|q| tags::value_is(
+            s,
+            q,
+            b"urn:oasis:names:tc:emergency:cap:1.2",
+        ))
 }
 
 // What is gathered in the root at i under the prefix p, which is accepted or not; None where the root has no end, or more than misc follows it.
@@ -201,7 +199,7 @@ fn pass(s: &[u8], p: &[u8], i: usize, ok: bool) -> Message
     judge(s, alert)
 }
 
-// What is in a root that is not accepted is skipped.
+// What is in a root that is not accepted is skipped. A flag and no closure: it chooses a value, and no step.
 fn root_context(ok: bool) -> Context
     ensures { result ≡ root_context ok }
 {

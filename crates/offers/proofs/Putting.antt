@@ -1,5 +1,5 @@
 -- Records put into a batch, one behind another.
---     notice-laid                                 the notice, from copies in zero-filled fields
+--     identity-fits, notice-laid                  the notice, from its values' fronts and a zero-filled header
 --     group-laid, word_back                       a withdrawal, from a group's parts and from the next word
 --     Putting, put-starts, put_last, put-more     the withdrawals of the references that are left, from record k on
 --     put-none, put_one_lem, put_alone, put_both  the records of a message
@@ -31,7 +31,7 @@ use Rattle.fields.proofs.Words.{value-words, len_is, more-is, last-is}
 use Rattle.fields.proofs.Lists.{word_room, word-long, word_copied}
 use Rattle.judgement.specs.WorkingRules.{asks_references}
 use Rattle.judgement.specs.declared.Judged.{Judged}
-use Rattle.records.specs.Record.{pad, be4, key_of, notice, withdrawal}
+use Rattle.records.specs.Record.{pad, key_of, notice, withdrawal}
 use Rattle.records.proofs.ZeroFill.{pad-long, pad-whole}
 use Rattle.records.proofs.Making.{laid}
 use Rattle.records.proofs.Records.{record-long}
@@ -42,23 +42,20 @@ use Rattle.offers.proofs.Taken.{named-good, references-are, map-long, Ready}
 
 -- ---- the notice
 
--- an identity copied into zeros
-identity-laid : (v x : List ℕ) → identity_ok v ≡ true → x ≡ sets (replicate 64 0) 0 (map low (take 64 v)) → x ≡ pad 64 v
-identity-laid v x ok p =
-    let l = identity-short v ok in
-    laid 64 v x l (p ∙ ap (λ (w : List ℕ). sets (replicate 64 0) 0 (map low w)) (take_all 64 v l) ∙ ap (sets (replicate 64 0) 0) (keeps v (identity-kept v ok)))
+-- an identity's front is all of it
+identity-back : (v x : List ℕ) → identity_ok v ≡ true → x ≡ map low (take 64 v) → x ≡ v
+identity-back v x ok p = p ∙ ap (map low) (take_all 64 v (identity-short v ok)) ∙ keeps v (identity-kept v ok)
 
-padded : (n : ℕ) (v : List ℕ) → length v ≤ n → pad n (pad n v) ≡ pad n v
-padded n v l = pad-whole n (pad n v) (pad-long n v l)
+pub identity-fits : (v x : List ℕ) → identity_ok v ≡ true → x ≡ map low (take 64 v) → length x ≤ 64
+identity-fits v x ok p = omega (arith, ap length (identity-back v x ok p), identity-short v ok)
 
-pub notice-laid : (sent : ℕ) (a b h x y z r : List ℕ) → identity_ok a ≡ true → identity_ok b ≡ true → length h ≤ 243 → x ≡ sets (replicate 64 0) 0 (map low (take 64 a)) →
-    y ≡ sets (replicate 64 0) 0 (map low (take 64 b)) → z ≡ sets (replicate 243 0) 0 h → r ≡ notice (key_of sent x y) (pad 243 z) → r ≡ notice (key_of sent a b) (pad 243 h)
-unfolding key_of
+pub notice-laid : (sent : ℕ) (a b h x y z r : List ℕ) → identity_ok a ≡ true → identity_ok b ≡ true → length h ≤ 243 → x ≡ map low (take 64 a) →
+    y ≡ map low (take 64 b) → z ≡ sets (replicate 243 0) 0 h → r ≡ notice (key_of sent x y) (pad 243 z) → r ≡ notice (key_of sent a b) (pad 243 h)
 notice-laid sent a b h x y z r oa ob lh px py pz e =
-    let qx = ap (pad 64) (identity-laid a x oa px) ∙ padded 64 a (identity-short a oa) in
-    let qy = ap (pad 64) (identity-laid b y ob py) ∙ padded 64 b (identity-short b ob) in
-    let qz = ap (pad 243) (laid 243 h z lh pz) ∙ padded 243 h lh in
-    e ∙ (λ i. notice (be4 sent ++ (qx i ++ qy i)) (qz i))
+    let qx = identity-back a x oa px in
+    let qy = identity-back b y ob py in
+    let qz = ap (pad 243) (laid 243 h z lh pz) ∙ pad-whole 243 (pad 243 h) (pad-long 243 h lh) in
+    e ∙ (λ i. notice (key_of sent (qx i) (qy i)) (qz i))
 
 -- ---- a withdrawal
 
@@ -235,9 +232,6 @@ module _ (s : List ℕ) (j : Judged) (d : List ℕ) where
       go false e = ap length (append-nil (notice (own_in s j.message) (zero_filled_header j))) ∙ record-long (notice (own_in s j.message) (zero_filled_header j)) (r.notice e)
 
   module _ (n : ℕ) (x : List ℕ) (t : n ≡ length (alert_by s j).carries) (p : x ≡ sets d 0 (flat notices)) where
-    pub as_long : length x ≡ length d
-    as_long = ap length p ∙ length-sets d 0 (flat notices)
-
     pub put_alone : asks_references j.message.msg_type ≡ false → Put d (records (alert_by s j)) n x
     unfolding alert_by
     put_alone q = rw (q, append-nil) (t ∙ sym (map-long (notice (own_in s j.message)) (alert_by s j).carries), p)

@@ -55,9 +55,9 @@ fn put_withdrawal(s: &[u8], at: usize, batch: &mut [u8], k: usize) -> Word
 
 // Puts a withdrawal for each reference, from record n on, and says how many records there are then.
 // Not an iterator's loop: where the next reference begins, and whether there is one, each tells when it is read.
-fn put_withdrawals(s: &[u8], at: usize, batch: &mut [u8], n: usize) -> usize
+fn put_withdrawals(s: &[u8], at: usize, batch: &mut [u8; 17 * Record::SIZE], n: usize) -> usize
     requires at_value { references_ok (value_at s.now at) ≡ true }
-    requires n_bound { (n ≤ 1) × (17 * 384 ≤ length batch.old) }
+    requires n_bound { n ≤ 1 }
     ensures value { result ≡ n + length (words (value_at s.now at)) }
     ensures batch_after { batch.new ≡ sets batch.old (n * 384) (flat (map withdrawal (map named_by (words (value_at s.now at))))) }
 {
@@ -92,18 +92,17 @@ impl Passed<'_> {
     {
         let message = self.judged.message;
         let leaf = message.alert.leaf;
-        let mut sender = [0u8; 64];
-        values::copy(self.s, leaf[reads::SENDER].at, 64, &mut sender, 0);
-        let mut identifier = [0u8; 64];
-        values::copy(self.s, leaf[reads::IDENTIFIER].at, 64, &mut identifier, 0);
+        let mut sender_room = [0u8; 64];
+        let sender = values::front(self.s, leaf[reads::SENDER].at, &mut sender_room);
+        let mut identifier_room = [0u8; 64];
+        let identifier = values::front(self.s, leaf[reads::IDENTIFIER].at, &mut identifier_room);
         let mut head = [0u8; Record::FRONT];
         header::put_body(&mut head, 0, self.judged.body);
-        Record::notice(message.sent, &sender, &identifier, &head)
+        Record::notice(message.sent, sender, identifier, &head)
     }
 
     // Puts the notice, unless the message is quiet, and says how many records there are then.
-    fn put_notice(&self, batch: &mut [u8]) -> usize
-        requires { 17 * 384 ≤ length batch.old }
+    fn put_notice(&self, batch: &mut [u8; 17 * Record::SIZE]) -> usize
         ensures value { result ≡ length (alert_by self.now.s.now self.now.judged).carries }
         ensures batch_after { batch.new ≡ sets batch.old 0 (flat (map (notice (own_in self.now.s.now self.now.judged.message)) (alert_by self.now.s.now self.now.judged).carries)) }
     {
@@ -115,8 +114,7 @@ impl Passed<'_> {
     }
 
     // Puts its records, and says how many there are.
-    fn put_records(&self, batch: &mut [u8]) -> usize
-        requires { 17 * 384 ≤ length batch.old }
+    fn put_records(&self, batch: &mut [u8; 17 * Record::SIZE]) -> usize
         ensures value { result ≡ length (records (alert_by self.now.s.now self.now.judged)) }
         ensures batch_after { batch.new ≡ sets batch.old 0 (flat (records (alert_by self.now.s.now self.now.judged))) }
     {

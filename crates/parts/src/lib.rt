@@ -117,10 +117,11 @@ pub fn station_ok(t: &[u8]) -> bool
 pub fn locations_ok(list: &[u32], n: usize) -> bool
     ensures { result ≡ locations_ok n list.now }
 {
-    if n < 1 || 31 < n || list.len() != 31 {
-        return false;
-    }
-    list[..n].iter().all(|v| *v < 1000000) && list[n..].iter().all(|v| *v == 0)
+    1 <= n
+        && n <= 31
+        && list.len() == 31
+        && list[..n].iter().all(|v| *v < 1000000)
+        && list[n..].iter().all(|v| *v == 0)
 }
 
 pub fn is_period(m: u32) -> bool
@@ -137,10 +138,7 @@ pub fn is_period(m: u32) -> bool
 pub fn times_ok(period: u32, day: u32, hour: u32, minute: u32) -> bool
     ensures { result ≡ times_ok period day hour minute }
 {
-    if !is_period(period) || day < 1 || 366 < day {
-        return false;
-    }
-    hour <= 23 && minute <= 59
+    is_period(period) && 1 <= day && day <= 366 && hour <= 23 && minute <= 59
 }
 
 pub fn body_ok(b: Body) -> bool

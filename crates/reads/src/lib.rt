@@ -246,6 +246,7 @@ pub fn is_pair(name: Leaf, value: Leaf) -> bool
 // ---- names
 
 // Where the name from `from` to `to` goes on behind the root's prefix p; its end where it does not carry it, so that the local name is empty (`local_at`).
+// Two places and no struct of them: `local_at` and `context_of` take both, and docs/PROMISES.md names what is asked of them.
 pub fn local(s: &[u8], p: &[u8], from: usize, to: usize) -> usize
     requires { (from ≤ to) × (to ≤ length s.now) }
     ensures { result ≡ local_at s.now p.now from to }

@@ -140,7 +140,7 @@ fn sent_of(key: &[u8]) -> u32
     u32::from_be_bytes(parts::bytes_at(key, 0))
 }
 
-// Whether a key is a sent, a sender and an identifier.
+// Whether a key is a sent, a sender and an identifier. A slice of 132 bytes, as `withdrawal_of` takes a key.
 fn is_key(key: &[u8]) -> bool
     requires { length key.now ≡ 132 }
     ensures { result ≡ key_ok key.now }
@@ -163,6 +163,7 @@ fn header_in(field: &[u8]) -> Option<Body>
 }
 
 // Whether the day, hour and minute of a header are those of sent.
+// sent is a number, with what `stamp_of` asks of it: the definitions take it so.
 fn is_on(body: Body, sent: u32) -> bool
     requires { sent < span }
     ensures { result ≡ every holds (eqb body.day (stamp_of sent).day ∷ eqb body.hour (stamp_of sent).hour ∷ eqb body.minute (stamp_of sent).minute ∷ []) }
@@ -179,9 +180,7 @@ fn is_header_of(field: &[u8], sent: u32) -> bool
     header_in(field).is_some_and(|body| is_on(body, sent))
 }
 
-// A slice of SIZE bytes here and below, and no array: that the array which `try_from` makes has the bytes of a slice of this length was not proved.
-fn is_notice(r: &[u8]) -> bool
-    requires { length r.now ≡ 384 }
+fn is_notice(r: &[u8; Record::SIZE]) -> bool
     ensures { result ≡ every holds (notice_tests r.now) }
 {
     let key = &r[Record::SENT..Record::HEADER];
@@ -190,8 +189,8 @@ fn is_notice(r: &[u8]) -> bool
         && are_zeros(&r[Record::YEAR..Record::SIZE])
 }
 
-fn is_withdrawal(r: &[u8]) -> bool
-    requires { length r.now ≡ 384 }
+// Alike is_aired in shape alone: other fields, other tests.
+fn is_withdrawal(r: &[u8; Record::SIZE]) -> bool
     ensures { result ≡ every holds (withdrawal_tests r.now) }
 {
     is_key(&r[Record::SENT..Record::HEADER])
@@ -270,8 +269,7 @@ fn is_dated(header: &[u8]) -> bool
         && header_in(&header[..Record::FRONT]).is_some_and(|body| has_day(year, body.day))
 }
 
-fn is_aired(r: &[u8]) -> bool
-    requires { length r.now ≡ 384 }
+fn is_aired(r: &[u8; Record::SIZE]) -> bool
     ensures { result ≡ every holds (aired_tests r.now) }
 {
     are_zeros(&r[Record::SENT..Record::HEADER])
@@ -283,11 +281,13 @@ fn is_aired(r: &[u8]) -> bool
 pub fn is_record(r: &[u8]) -> bool
     ensures { result ≡ record_ok r.now }
 {
-    r.len() == Record::SIZE
-        && match r[Record::KIND] {
-            Record::NOTICE => is_notice(r),
-            Record::WITHDRAWAL => is_withdrawal(r),
-            Record::AIRED => is_aired(r),
-            _ => false,
-        }
+    let Ok(r) = <&[u8; Record::SIZE]>::try_from(r) else {
+        return false;
+    };
+    match r[Record::KIND] {
+        Record::NOTICE => is_notice(r),
+        Record::WITHDRAWAL => is_withdrawal(r),
+        Record::AIRED => is_aired(r),
+        _ => false,
+    }
 }

@@ -152,7 +152,7 @@ impl Writer<'_> {
     }
 }
 
-// Puts the sentence of the parts into `out` at `at`, and says where it ends.
+// Puts the sentence of the parts into `out` at `at`, and says where it ends. The count is asked for, as header::put_body asks.
 pub fn put_sentence(out: &mut [u8], at: usize, b: Body) -> usize
     requires at_in_bounds { at + 389 ≤ length out.old }
     requires le_count { (1 ≤ b.count) × (b.count ≤ 31) }

@@ -1,4 +1,4 @@
--- Headers with their years, compared by the headers alone as far as these tell: front_less, fronts-decide, fronts-differ.
+-- Headers with their years, compared by the headers alone as far as these tell: front_less, headers-then, fronts-differ.
 use Prim.Native.Nat.{ℕ}
 use mathlib.Core.Bool.{false, true≢false}
 use mathlib.Core.Path.{◌≡◌, refl, sym, ap, ap₂, ◌∙◌}
@@ -7,9 +7,10 @@ use native.Mathlib.Omega.{arith}
 use lib.ListN.{length, drop, length-drop, take-append-drop}
 use Rattle.std.specs.declared.cmp.Ordering.{Ordering}
 use Rattle.std.specs.declared.cmp.Ordering.TheVariants.{Less, Equal, Greater}
+use Rattle.std.specs.Ordering.{MatchOrdering}
 use Rattle.octets.specs.Bytes.{same}
 use Rattle.octets.specs.Order.{cmp, choose}
-use Rattle.octets.proofs.Orders.{cmp-refl, cmp-trans, cmp-shorter, starts-decide}
+use Rattle.octets.proofs.Orders.{cmp-refl, cmp-trans, cmp-shorter, less-same, more_same, starts-decide}
 use Rattle.octets.proofs.Sames.{same-is, same_refl}
 use Rattle.octets.proofs.Tests.{never}
 use Rattle.records.specs.Record.{header, header_of, carried}
@@ -41,12 +42,18 @@ stays Equal p d = absurd (d refl)
 stays Greater p d = refl
 
 module _ (q r : List ℕ) (lq : length q ≡ 384) (lr : length r ≡ 384) where
-  pub fronts-decide : (o : Ordering) → (o ≡ Equal → ⊥) → cmp (header q) (header r) ≡ o → cmp (carried q) (carried r) ≡ o
+  fronts-decide : (o : Ordering) → (o ≡ Equal → ⊥) → cmp (header q) (header r) ≡ o → cmp (carried q) (carried r) ≡ o
   fronts-decide o d e =
       ap₂ cmp (with_rest q lq) (with_rest r lr)
       ∙ starts-decide (header q) (header r) (drop 243 (carried q)) (drop 243 (carried r)) (header-long q lq ∙ sym (header-long r lr))
       ∙ ap (λ (c : Ordering). choose c Less (cmp (drop 243 (carried q)) (drop 243 (carried r))) Greater) e
       ∙ stays o (cmp (drop 243 (carried q)) (drop 243 (carried r))) d
+
+  -- what is w where o is how the headers stand, and P tells it where these are the same
+  pub headers-then : (P : Type 0) (o w : Ordering) → o ≡ cmp (header q) (header r) → (P → w ≡ cmp (carried q) (carried r)) → MatchOrdering o (w ≡ Less) P (w ≡ Greater) → w ≡ cmp (carried q) (carried r)
+  headers-then P Less w e f m = m ∙ sym (fronts-decide Less less-same (sym e))
+  headers-then P Equal w e f m = f m
+  headers-then P Greater w e f m = m ∙ sym (fronts-decide Greater more_same (sym e))
 
   pub fronts-differ : same (header q) (header r) ≡ false → same (carried q) (carried r) ≡ false
   fronts-differ e = never (same (carried q) (carried r)) (λ t.

@@ -10,10 +10,11 @@ ghost use Rattle.ledger.specs.Sorted.{has, Sorted, insert, insert_all};
 ghost use Rattle.slots.specs.WorkingSlots.{rec, flat, place_of};
 ghost use Rattle.slots.specs.Slots.{recs};
 
-// A slice and how many of its records count: docs/PROMISES.md names these functions so, and an addition changes both at once, so that no view of the records can be held over it.
-
 use records::Record;
 use std::cmp::Ordering;
+
+// A slice and how many of its records count: docs/PROMISES.md names these functions so, and an addition changes both at once,
+// so that no view of the records can be held over it.
 
 // The record at index i.
 pub fn record_at(s: &[u8], i: usize) -> &[u8]
@@ -99,14 +100,7 @@ pub fn tally(s: &[u8], n: usize, batch: &[u8], m: usize) -> usize
     ensures n_value { result + n ≡ length (insert_all (recs m batch.now) (recs n s.now)) }
     ensures upper_bound { result ≤ m }
 {
-    let mut count = 0;
-    // By index: record i is looked for among those before it too.
-    for i in 0..m {
-        if is_new(s, n, batch, i) {
-            count += 1;
-        }
-    }
-    count
+    (0..m).filter(|i| is_new(s, n, batch, *i)).count()
 }
 
 // Adds them to the first n records, where there is room. The result is how many there are then.
@@ -166,10 +160,11 @@ pub fn compare_headers(s: &[u8], i: usize, j: usize) -> Ordering
     requires { ((i + 1) * 384 ≤ length s.now) × ((j + 1) * 384 ≤ length s.now) }
     ensures { result ≡ cmp (carried (rec i s.now)) (carried (rec j s.now)) }
 {
-    match octets::compare(front_at(s, i), front_at(s, j)) {
-        Ordering::Equal => compare_whole(&header_at(s, i), s, j),
-        decided => decided,
-    }
+    octets::compare(front_at(s, i), front_at(s, j)).then_with(|| compare_whole(
+        &header_at(s, i),
+        s,
+        j,
+    ))
 }
 
 // Whether the two are the same.

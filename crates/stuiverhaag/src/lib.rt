@@ -42,6 +42,7 @@ fn pack_carry(carry: bool) -> u64
     if carry { BIT28 } else { 0 }
 }
 
+// By `as` where a usize is widened, which has no From.
 fn pack_headed(c: Headed) -> u64
     requires { NarrowHeaded c }
     ensures { result ≡ packed_headed c }

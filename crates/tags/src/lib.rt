@@ -207,6 +207,7 @@ fn take(s: &[u8], a: usize, i: usize) -> Step
 // The names of many attributes are put into a tree as they are read. The way of a name goes from node 0 by its bits, and ends at a node of that name or at a
 // free cell, so that it passes few others, whatever the names are. A node is four cells: where its name begins, where it ends, and the nodes at which the
 // ways go on that turn by 0 and by 1, or 0. Node 0 has no name. The cells are an array of fixed size and no map: `open_tag` cannot fail, so nothing is allocated.
+// Four cells of one array, and no struct: `node_name`, `cell_of` and `NameTree` say which cell has what.
 const NODES: usize = 2048;
 
 const CELLS: usize = 8192;

@@ -224,7 +224,7 @@ pub fn low_of(c: u32) -> u8
 }
 
 // Puts at most g characters of a value, from a place in it, into `out` at `to`, each as one byte, and says how many.
-// By index: the value may end before `out` does, and a proof knows nothing of what is written through an iterator.
+// By index: what stands at a place tells where the next character begins, and of what is written through an iterator a proof knows nothing.
 fn copy_rest(s: &[u8], at: usize, g: usize, out: &mut [u8], to: usize) -> usize
     requires { to + length (take g (rest_at s.now at)) ≤ length out.old }
     ensures value { result ≡ length (take g (rest_at s.now at)) }

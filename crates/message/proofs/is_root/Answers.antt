@@ -22,12 +22,12 @@ slice_bounds-equal-count c = let a = c.args in let l = local-ends a.s.now a.p.no
 pub slice_bounds-equal-start : goal.slice_bounds-equal-start
 slice_bounds-equal-start c = let a = c.args in let l = local-ends a.s.now a.p.now a.from a.to (search rules) in omega arith
 
-pub returns-then-not-equal : goal.returns-then-not-equal
+pub returns-else-equal : goal.returns-else-equal
 unfolding root_with bytes
-returns-then-not-equal c =
+returns-else-equal c =
     let a = c.args in
-    let e : same (name_of a.s.now a.p.now a.from a.to) (bytes "alert") ≡ false = ap (λ (x : ℕ). same (part a.s.now x (a.to - x)) (bytes "alert")) (sym c.local-at.ensures) ∙ sym c.equal.ensures ∙ c.if-not-equal.true in
-    rw e
+    let e : same (name_of a.s.now a.p.now a.from a.to) (bytes "alert") ≡ false = ap (λ (x : ℕ). same (part a.s.now x (a.to - x)) (bytes "alert")) (sym c.local-at.ensures) ∙ sym c.equal.ensures ∙ c.if-equal.false in
+    rw (e, c.if-equal.false)
 
 pub is_some_and-requires : goal.is_some_and-requires
 is_some_and-requires c = λ q e κs.
@@ -36,9 +36,9 @@ is_some_and-requires c = λ q e κs.
     let within : q ≤ length a.s.now = (rw f at (named-goes a.s.now (a.lead.now ++ a.rest.now) a.to (length a.s.now) (search rules))).1 in
     search rules
 
-pub returns : goal.returns
+pub returns-then-equal : goal.returns-then-equal
 unfolding root_with is_namespace bytes
-returns c =
+returns-then-equal c =
     let a = c.args in
-    let e : same (name_of a.s.now a.p.now a.from a.to) (bytes "alert") ≡ true = ap (λ (x : ℕ). same (part a.s.now x (a.to - x)) (bytes "alert")) (sym c.local-at.ensures) ∙ sym c.equal.ensures ∙ c.if-not-equal.false in
+    let e : same (name_of a.s.now a.p.now a.from a.to) (bytes "alert") ≡ true = ap (λ (x : ℕ). same (part a.s.now x (a.to - x)) (bytes "alert")) (sym c.local-at.ensures) ∙ sym c.equal.ensures ∙ c.if-equal.true in
     rw (e, ← c.find.ensures) (search rules)
