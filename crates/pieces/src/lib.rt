@@ -201,7 +201,8 @@ pub fn note(s: &[u8], at: usize) -> Option<usize>
 
 // ---- references
 
-// The character, if the reference `word` to it stands at `at`, and where that ends.
+// The character, if the reference `word` to it stands at `at`, and where that ends. Inlined, so that the word is compared as the literal that it is.
+#[inline]
 fn entity(s: &[u8], at: usize, word: &[u8], character: u8) -> Option<(u32, usize)>
     requires { 1 ≤ length word.now }
     ensures { result ≡ entity word.now character s.now at None }
@@ -284,7 +285,8 @@ fn wide(s: &[u8], at: usize) -> Option<(u32, usize)>
     }
 }
 
-// A character of text or of a value.
+// A character of text or of a value. Inlined, for an answer goes through memory, and most characters are one byte of a run.
+#[inline]
 pub fn character(s: &[u8], at: usize) -> Option<(u32, usize)>
     ensures { result ≡ char_at s.now at }
 {

@@ -112,6 +112,9 @@ fn keyed(kind: u8, sent: u32, sender: &[u8], identifier: &[u8]) -> [u8; Record::
 
 // ---- the rules
 
+// The seconds of 2000 to 2099.
+const SPAN: u32 = clock::SPAN;
+
 pub fn are_zeros(f: &[u8]) -> bool
     ensures { result ≡ zeros f.now }
 {
@@ -145,7 +148,7 @@ fn is_key(key: &[u8]) -> bool
     requires { length key.now ≡ 132 }
     ensures { result ≡ key_ok key.now }
 {
-    sent_of(key) < clock::SPAN
+    sent_of(key) < SPAN
         && is_name(&key[Record::SENDER - Record::SENT..Record::IDENTIFIER - Record::SENT])
         && is_name(&key[Record::IDENTIFIER - Record::SENT..Record::HEADER - Record::SENT])
 }
@@ -204,7 +207,7 @@ fn is_withdrawal(r: &[u8; Record::SIZE]) -> bool
 fn utc_year(sent: u32) -> u32
     ensures { result ≡ (stamp_of sent).year }
 {
-    if clock::SPAN <= sent {
+    if SPAN <= sent {
         return 2099;
     }
     clock::stamp_of(sent).year

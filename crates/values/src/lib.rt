@@ -109,7 +109,9 @@ fn slow(s: &[u8], at: usize) -> Option<(u32, usize)>
     Some((f.c, f.next))
 }
 
-// The next character of the value from a place in it: a mark, and white space before a mark, at once.
+// The next character of the value from a place in it: a mark, and white space before a mark, at once. Inlined, for an answer goes through memory: most characters
+// are marks, and are then taken as they stand.
+#[inline]
 pub fn step(s: &[u8], at: usize) -> Option<(u32, usize)>
     ensures { result ≡ step_at s.now at }
 {
