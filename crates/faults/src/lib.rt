@@ -18,7 +18,7 @@ pub struct Faults {
     pub other: bool,
 }
 
-// One fault is noted, or not.
+// One fault is noted, or not. A flag and no method of Faults: its clause takes any bits and any mask, and docs/PROMISES.md names it so.
 pub fn noted(bits: u32, bad: bool, mask: u32) -> u32
     ensures { result ≡ pick bad (bit_or bits mask) bits }
 {

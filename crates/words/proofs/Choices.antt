@@ -13,7 +13,7 @@ use Rattle.octets.specs.Bytes.{pick, same}
 use Rattle.words.specs.WorkingWords.{which_of}
 
 module _ {A : Type 0} (none : A) where
-  -- the answer of the first word that is w, and behind the words the next one; a definition by a chain of tests is one
+  -- the answer of the first word that is w, or else the one behind the words'; a definition by a chain of tests is one
   abbrev pub choice : List (List ℕ) → List A → List ℕ → A
   choice [] xs w = get_or xs 0 none
   choice (v ∷ vs) [] w = none
