@@ -3,7 +3,7 @@
 --     offer-bad, offer-full, offer-taken, ..      an offer of records
 --     hand-bad, hand-none, hand-full, hand-given  a hand-out
 --     list-bad, list-short, list-given            the list
---     finds-rows                                  what is found for it
+--     finds-none, finds-rows                      what is found for it
 --     list_counts, list-within, list-lent         its rows are as many as it says, and fit; more than 170 lent are as good as 170
 use Prim.Native.Nat.{ℕ, suc, ◌+◌, ◌*◌, ◌-◌, ◌≤◌, ◌<◌}
 use mathlib.Core.Bool.{Bool, true, false}
@@ -25,6 +25,7 @@ use Rattle.ledger.proofs.Sorts.{insert-new, insert-length, insert_all-grows}
 use Rattle.ledger.proofs.Dues.{in-due}
 use Rattle.slots.specs.WorkingSlots.{rec, flat}
 use Rattle.slots.specs.Slots.{recs}
+use Rattle.board.specs.declared.Listed.{Listed}
 use Rattle.board.specs.declared.Rows.{Rows}
 use Rattle.board.specs.Rules.{board_of}
 use Rattle.board.specs.WorkingRules.{board_ok, encode, added}
@@ -179,6 +180,9 @@ module _ (s : List ℕ) (m n k : ℕ) (is : n ≡ length (board_of s)) (ok : boa
 -- what is found for an outcome: its answer, and its rows from the start
 abbrev pub Finds : Listing → Rows → Type 0
 Finds o r = (r.answer ≡ o.answer) × (take r.answer.count r.rows ≡ o.rows)
+
+pub finds-none : (o : Listing) (number : ℕ) (r : Rows) → o ≡ list_refused number → r.answer ≡ (list_refused number).answer → Finds o r
+finds-none o number r e a = (a ∙ sym (ap (λ (x : Listing). x.answer) e), (ap (λ (x : Listed). take x.count r.rows) a ∙ sym (ap (λ (x : Listing). x.rows) e)))
 
 pub finds-rows : (o : Listing) (rows : List Row) (r : Rows) → o ≡ record { answer = record { number = 0; count = r.answer.count }; rows = rows } → r.answer.number ≡ 0 → take r.answer.count r.rows ≡ rows → Finds o r
 finds-rows o rows r e z t = (ap (λ (x : ℕ). record { number = x; count = r.answer.count }) z ∙ sym (ap (λ (x : Listing). x.answer) e), (t ∙ sym (ap (λ (x : Listing). x.rows) e)))

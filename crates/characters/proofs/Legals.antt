@@ -32,6 +32,11 @@ pub legal-upper : (c : ℕ) → 57344 ≤ c → c ≤ 65533 → true ≡ is_lega
 unfolding is_legal
 legal-upper c l h = rw (not_first c (omega arith), above-between 32 55295 c (omega arith), between_is 57344 65533 c l h)
 
+-- 0xFFFE and 0xFFFF
+pub legal-none : (c : ℕ) → 65533 < c → c < 65536 → false ≡ is_legal c
+unfolding is_legal
+legal-none c l h = rw (not_first c (omega arith), above-between 32 55295 c (omega arith), above-between 57344 65533 c l, below-between 65536 1114111 c h)
+
 pub legal-high : (c : ℕ) → 65536 ≤ c → leb c 1114111 ≡ is_legal c
 unfolding is_legal between every
 legal-high c l = rw (not_first c (omega arith), lt-leb c 55295 (omega arith), lt-leb c 65533 (omega arith), le-leb 65536 c l, le-leb 32 c (omega arith), le-leb 57344 c (omega arith), mathlib.Core.Bool.and-true)

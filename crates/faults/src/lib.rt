@@ -2,6 +2,8 @@
 #![tactic(auto)]
 
 ghost use Rattle.std.specs.Prelude.{◌≡◌, [], ◌∷◌};
+ghost use Rattle.std.specs.Int.Bits.{bit_or};
+ghost use Rattle.octets.specs.Bytes.{pick};
 ghost use Rattle.faults.specs.WorkingField.{bits_of, lowest};
 
 // What is at fault, field by field.
@@ -14,6 +16,13 @@ pub struct Faults {
     pub msg_type: bool,
     pub scope: bool,
     pub other: bool,
+}
+
+// One fault is noted, or not. A flag and no method of Faults: its clause takes any bits and any mask, and docs/PROMISES.md names it so.
+pub fn noted(bits: u32, bad: bool, mask: u32) -> u32
+    ensures { result ≡ pick bad (bit_or bits mask) bits }
+{
+    if bad { bits | mask } else { bits }
 }
 
 impl Faults {

@@ -1,5 +1,6 @@
 pub mod Buffers
 pub mod Identities
+pub mod Names
 pub mod Places
 pub mod Partings
 pub mod Groups

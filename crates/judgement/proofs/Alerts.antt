@@ -17,7 +17,7 @@ use Rattle.judgement.specs.WorkingRules.{event_is, event_of, origin_of, located}
 use Rattle.judgement.specs.WorkingJudged.{without, body_with, lasting, alerted}
 use Rattle.judgement.specs.declared.Judged.{Judged}
 
-event-none : (s : List ℕ) (l : Leaf) → event_of s l ≡ None → event_is s l ≡ false
+pub event-none : (s : List ℕ) (l : Leaf) → event_of s l ≡ None → event_is s l ≡ false
 unfolding event_of
 event-none s l h = go (event_is s l) h
   where
@@ -25,7 +25,7 @@ event-none s l h = go (event_is s l) h
     go true k = cc
     go false k = refl
 
-event-some : (s : List ℕ) (l : Leaf) (e : List ℕ) → event_of s l ≡ Some e → (event_is s l ≡ true) × (e ≡ value_at s l.at)
+pub event-some : (s : List ℕ) (l : Leaf) (e : List ℕ) → event_of s l ≡ Some e → (event_is s l ≡ true) × (e ≡ value_at s l.at)
 unfolding event_of
 event-some s l e h = go (event_is s l) h
   where

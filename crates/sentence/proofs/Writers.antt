@@ -1,13 +1,15 @@
 -- What a writer leaves, piece by piece.
 --     none-put, then, named     nothing is put; one run behind another; the same by another name
---     others-step, others-at    the locations one by one
+--     others-step, others-room  the locations one by one
+--     Left, left_step, left-done   a run of which the rest has yet to be put
 use Prim.Native.Nat.{ℕ, ◌+◌, ◌-◌, ◌/◌, ◌%◌, ◌≤◌, ◌<◌}
 use mathlib.Core.List.{List, [], ◌∷◌, ◌++◌, append_assoc, append-nil}
 use mathlib.Core.Path.{◌≡◌, refl, sym, ap, ◌∙◌}
 use native.Mathlib.Omega.{arith}
 use lib.ListN.{length, take, drop, get_or, length-append, take-append-drop}
+use lib.Seq.{sets, length-sets}
 use Rattle.std.proofs.lemmas.List.{take_more, take_all}
-use Rattle.octets.proofs.Runs.{behind}
+use Rattle.octets.proofs.Runs.{Run, behind, goes_on}
 use Rattle.octets.specs.Digits.{digits}
 use Rattle.octets.specs.Text.{bytes}
 use Rattle.sentence.specs.Words.{location_word, others, location_words, when_words}
@@ -70,3 +72,24 @@ pub none-joined : (list : List ℕ) → length list < 1 → location_words list 
 unfolding location_words
 none-joined [] h = refl
 none-joined (v ∷ list) h = absurd (omega arith)
+
+-- ---- whole is being put into d from `at` on: x is d so far, and rest is to follow at e
+
+pub record Left (d : List ℕ) (at : ℕ) (whole x : List ℕ) (e : ℕ) (rest : List ℕ) : Type 0 where
+  pub is : sets x e rest ≡ sets d at whole
+  pub ends : e + length rest ≡ at + length whole
+  pub long : length x ≡ length d
+
+pub left-all : (d : List ℕ) (at : ℕ) (whole : List ℕ) → Left d at whole d at whole
+left-all d at whole = record { is = refl; ends = refl; long = refl }
+
+module _ {d : List ℕ} {at : ℕ} {whole x : List ℕ} {e : ℕ} {rest : List ℕ} (l : Left d at whole x e rest) where
+  pub left_step : (ws more : List ℕ) {y : List ℕ} {f : ℕ} → rest ≡ ws ++ more → Run x e ws y f → Left d at whole y f more
+  left_step ws more s r = record {
+    is = goes_on r more ∙ ap (sets x e) (sym s) ∙ l.is;
+    ends = omega (arith, ap length s, length-append ws more, l.ends, r.ends);
+    long = ap length r.is ∙ length-sets x e ws ∙ l.long;
+  }
+
+  pub left-done : rest ≡ [] → (e ≡ at + length whole) × (x ≡ sets d at whole)
+  left-done s = (omega (arith, ap length s, l.ends), ap (sets x e) (sym s) ∙ l.is)

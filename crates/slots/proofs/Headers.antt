@@ -1,4 +1,4 @@
--- Headers with their years, compared by the headers alone as far as these tell: front_less, headers-then, fronts-differ.
+-- Headers with their years, compared by the headers alone as far as these tell: front_less, fronts-decide, headers-then, fronts-differ.
 use Prim.Native.Nat.{ℕ}
 use mathlib.Core.Bool.{false, true≢false}
 use mathlib.Core.Path.{◌≡◌, refl, sym, ap, ap₂, ◌∙◌}
@@ -42,7 +42,7 @@ stays Equal p d = absurd (d refl)
 stays Greater p d = refl
 
 module _ (q r : List ℕ) (lq : length q ≡ 384) (lr : length r ≡ 384) where
-  fronts-decide : (o : Ordering) → (o ≡ Equal → ⊥) → cmp (header q) (header r) ≡ o → cmp (carried q) (carried r) ≡ o
+  pub fronts-decide : (o : Ordering) → (o ≡ Equal → ⊥) → cmp (header q) (header r) ≡ o → cmp (carried q) (carried r) ≡ o
   fronts-decide o d e =
       ap₂ cmp (with_rest q lq) (with_rest r lr)
       ∙ starts-decide (header q) (header r) (drop 243 (carried q)) (drop 243 (carried r)) (header-long q lq ∙ sym (header-long r lr))

@@ -1,5 +1,7 @@
 -- A copy of at most g characters of a value v, each as a byte, as its caller has it: at the front of a buffer d.
+--     room      room for g characters is enough
 --     fronted   the copy stands there
+--     whole     fewer than g characters are the whole value
 --     plain_by, low-plain                a test that only characters below 128 pass, and a value of such characters, which is its own copy
 --     printable-low                      a value of characters of 32 to 126 is its own copy
 --     low-pick, low_same                 a test that only characters of 1 to 127 pass says the same of a value and of its copy
@@ -10,13 +12,20 @@ use mathlib.Core.List.{List, [], ◌∷◌, ◌++◌, map}
 use native.Mathlib.Omega.{arith}
 use native.Mathlib.Decide.{dec_lt}
 use lib.ListN.{length, take, drop, length-take, length-map}
-use lib.Seq.{sets, sets-eq, take_at}
+use lib.Seq.{sets, sets-eq, take_all, take_at}
 use lib.Dec.{ltb}
 use borrow.Author.Tests.{lt-ltb, le-ltb, ltb-true}
 use Rattle.octets.specs.Bytes.{pick, every, between}
 use Rattle.octets.proofs.Everys.{every-weaker}
 use Rattle.octets.proofs.Tests.{every_first, every_rest, between-low, between-high}
 use Rattle.values.specs.WorkingSteps.{low, is_printable}
+
+module _ (g : ℕ) (v : List ℕ) where
+  pub room : (to n : ℕ) → to + g ≤ n → to + length (take g v) ≤ n
+  room to n h = let l : length (take g v) ≤ g = simp length-take (omega arith) in omega arith
+
+  pub whole : length (take g v) < g → take g v ≡ v
+  whole h = take_all g v (omega (arith, simp length-take at h))
 
 -- a copy into a buffer of g elements, of which it takes n
 pub fronted : (g n : ℕ) (v d x : List ℕ) → length d ≡ g → n ≡ length (take g v) → x ≡ sets d 0 (map low (take g v)) → take n x ≡ map low (take g v)

@@ -17,7 +17,7 @@ use Rattle.wording.specs.Text.{Shares, after_space, one, room_of, shares_of, las
 use Rattle.wording.proofs.Cuts.{one_none, one-some, cut-same, part, part_none, part-long}
 
 -- the greater of A − i and h
-abbrev up_to : ℕ → ℕ → ℕ
+abbrev pub up_to : ℕ → ℕ → ℕ
 up_to a i = max (a - i) (a / 2)
 
 record Short (a d i : ℕ) (g : Shares) : Type 0 where
@@ -46,11 +46,21 @@ shares-short a d i =
 up_le : (a i : ℕ) → up_to a i ≤ a
 up_le a i = omega arith
 
+pub up_first : (a i : ℕ) → i < a - a / 2 → a - i ≡ up_to a i
+up_first a i h = omega arith
+
+pub up-half : (a i : ℕ) → a - a / 2 ≤ i → a / 2 ≡ up_to a i
+up-half a i h = omega arith
+
 -- ---- what description may take
 
 pub given-none : (n : ℕ) → given_to n 0 ≡ 1799 - n
 unfolding given_to
 given-none n = omega arith
+
+pub given-some : (n i : ℕ) → 0 < i → up_to (1799 - n - 1) i ≡ given_to n i
+unfolding given_to
+given-some n i h = let a : 1799 - n - 1 ≡ 1799 - n - min 1 i = omega arith in ap (λ (x : ℕ). up_to x i) a
 
 pub given-ge : (n i : ℕ) → n ≤ 1792 → 3 ≤ given_to n i
 unfolding given_to

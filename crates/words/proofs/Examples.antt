@@ -6,6 +6,7 @@ use Rattle.std.specs.Prelude.{Some, None}
 use Rattle.octets.specs.Bytes.{same}
 use Rattle.octets.specs.Text.{bytes}
 use Rattle.words.specs.WorkingWords.{words_of, which_of}
+use Rattle.words.proofs.Choices.{choice}
 
 abbrev table : List (List ℕ)
 table = words_of (4 ∷ 6 ∷ 0 ∷ []) (bytes "sentsender")
@@ -17,7 +18,10 @@ pub record Tables : Type 0 where
   pub none : which_of table (bytes "send") ≡ None
   -- a length that goes beyond the end
   pub cut : words_of (4 ∷ 7 ∷ 1 ∷ []) (bytes "sentsender") ≡ bytes "sent" ∷ []
+  -- behind the words stands the answer of a name that is none of them
+  pub no_word : choice {A = ℕ} 0 [] (7 ∷ []) (bytes "sent") ≡ 7
+  pub other_word : choice {A = ℕ} 0 table (4 ∷ 6 ∷ 5 ∷ 7 ∷ []) (bytes "send") ≡ 7
 
 tables : Tables
 unfolding words_of which_of same bytes
-tables = record { words = refl; first = refl; second = refl; none = refl; cut = refl }
+tables = record { words = refl; first = refl; second = refl; none = refl; cut = refl; no_word = refl; other_word = refl }

@@ -1,5 +1,6 @@
 -- The first word of a table that a test takes, as it is looked for: the place of a name, and the word at a place.
 --     over, cut, hit, miss     k words have been passed, and what is left of the text is t
+--     other                    the test is for a name, and the word has another length
 --     place, nth               the test is for a name; the test is for a place
 use mathlib.Core.Path.{◌≡◌, refl, sym, ap, ◌∙◌}
 use mathlib.Core.Bool.{Bool, true, false}
@@ -14,8 +15,9 @@ use lib.ListN.{length, drop, get_or}
 use Rattle.std.specs.List.{IsSplitAt}
 use Rattle.std.specs.Prelude.{Option, Some, None, option_map, unwrap_or}
 use Rattle.octets.specs.Bytes.{pick, same}
+use Rattle.octets.proofs.Sames.{same-long}
 use Rattle.words.specs.WorkingWords.{words_of, which_of, first_of}
-use Rattle.words.proofs.Tables.{left, words-over, words-cut, words-next}
+use Rattle.words.proofs.Tables.{left, words-over, words-cut, words-next, length-here}
 
 module _ (p : ℕ → List ℕ → Bool) (k : ℕ) where
   first-none : first_of p k [] ≡ None
@@ -49,7 +51,12 @@ module _ (p : ℕ → List ℕ → Bool) (lens t : List ℕ) (k : ℕ) {a : Opti
       pub miss : p k x ≡ false → first_of p (k + 1) (words_of (drop (k + 1) lens) u) ≡ a
       miss y = sym (first-passed p k x (words_of (drop (k + 1) lens) u) y) ∙ from _ (words-next lens t k n h e x u s)
 
--- the test is for a name
+-- the test is for a name: a word of another length is not it
+module _ (w lens t : List ℕ) (k : ℕ) {a : Option (ℕ × List ℕ)} (l : first_of (λ _ x. same w x) k (left lens t k) ≡ a) where
+  pub other : (n : ℕ) → k < length lens → n ≡ get_or lens k 0 → (x u : List ℕ) → IsSplitAt t n x u → (get_or lens k 0 ≡ length w → ⊥) →
+      first_of (λ _ x. same w x) (k + 1) (words_of (drop (k + 1) lens) u) ≡ a
+  other n h e x u s d = miss (λ _ x. same w x) lens t k l n h e x u s (same-long w x (λ f. d (sym (f ∙ length-here lens t k n h e x u s))))
+
 place_turn : (b : Bool) (k : ℕ) (x : List ℕ) (o : Option (ℕ × List ℕ)) (q : Option ℕ) → option_map (λ f. f.0) o ≡ option_map (λ j. suc k + j) q → option_map (λ f. f.0) (pick b (Some (k, x)) o) ≡ option_map (λ j. k + j) (pick b (Some 0) (option_map suc q))
 place_turn true k x o q h = ap Some (omega arith)
 place_turn false k x o None h = h

@@ -1,5 +1,6 @@
 -- A table read word by word: the words of the lengths from place k on, which stand in what is left of the text.
 --     words-over, words-cut, words-next     none left; a length that goes beyond the end; a word, and those behind it
+--     length-here                           that word's length
 use mathlib.Core.Path.{◌≡◌, refl, ap, ◌∙◌}
 use mathlib.Core.List.{List, [], ◌∷◌}
 use Prim.Native.Nat.{ℕ, ◌+◌, ◌≤◌, ◌<◌}
@@ -39,3 +40,6 @@ module _ (lens t : List ℕ) (k : ℕ) where
 
     pub words-next : (x u : List ℕ) → IsSplitAt t n x u → left ≡ x ∷ words_of (drop (k + 1) lens) u
     words-next x u s = rw (s.1, s.2) (first ∙ words_step n (drop (k + 1) lens) t s.0)
+
+    pub length-here : (x u : List ℕ) → IsSplitAt t n x u → length x ≡ get_or lens k 0
+    length-here x u s = s.3 ∙ e

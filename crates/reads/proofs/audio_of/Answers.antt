@@ -19,7 +19,7 @@ names = map bytes ("audio/x-ipaws-audio-mp3" ∷ "audio/x-ipaws-audio-wav" ∷ "
 abbrev numbers : List ℕ
 numbers = 1 ∷ 2 ∷ 3 ∷ []
 
-told : (s : List ℕ) (at : ℕ) {o : Option ℕ} → o ≡ which_of names (value_at s at) → answer 0 numbers o ≡ audio_of s at
+told : (s : List ℕ) (at : ℕ) {o : Option ℕ} → o ≡ which_of names (value_at s at) → answer 0 3 numbers o ≡ audio_of s at
 unfolding audio_of
 told s at h = chosen 0 names numbers (value_at s at) h
 

@@ -19,8 +19,8 @@ codes = words_of (3 ∷ 3 ∷ 3 ∷ 3 ∷ 3 ∷ 3 ∷ []) (bytes "EANRMTRWTCEMFF
 abbrev phrases : List (List ℕ)
 phrases = words_of (29 ∷ 21 ∷ 20 ∷ 23 ∷ 19 ∷ 15 ∷ []) (bytes "Emergency Action NotificationRequired Monthly TestRequired Weekly TestCivil Emergency MessageFlash Flood WarningTornado Warning")
 
--- the words at a code's place; `event EEE` where there is none
-said : (e : List ℕ) {o : Option ℕ} → o ≡ which_of codes e → answer (bytes "event " ++ e) phrases o ≡ event_words e
+-- the words at a code's place; where it has none, what stands behind the sixth, which is `event EEE`
+said : (e : List ℕ) {o : Option ℕ} → o ≡ which_of codes e → answer (bytes "event " ++ e) 6 phrases o ≡ event_words e
 unfolding words_in bytes words_of
 said e h = chosen (bytes "event " ++ e) codes phrases e h
 
@@ -39,5 +39,5 @@ unfolding bytes
 returns-in-Some c = named c.put.ensures _ (sym (c.word.ensures ∙ word-said c.args.e.now _ (sym c.in-Some.is ∙ c.which.ensures)))
 
 pub returns-in-None : goal.returns-in-None
-unfolding bytes
+unfolding bytes words_of
 returns-in-None c = named (then c.put-in-None.ensures c.put-in-None-2.ensures) _ (sym (said c.args.e.now (sym c.in-None.is ∙ c.which.ensures)))
