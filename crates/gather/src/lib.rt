@@ -47,7 +47,8 @@ fn touch_at(leaves: &mut [Leaf], k: usize, t: Touch)
     }
 }
 
-// Touches the leaf of the context c; where c is no leaf, nothing.
+// Touches the leaf of the context c; where c is no leaf, nothing. Inlined, for each of its uses knows what is learnt.
+#[inline]
 #[tactic(auto, unfolding(crate::specs::WorkingVisit::touch_in))]
 fn touch_leaf(c: Context, t: Touch, st: &mut State)
     ensures { st.new ≡ touch_in t c st.old }

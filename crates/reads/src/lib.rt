@@ -304,8 +304,8 @@ pub fn later_context(name: &[u8]) -> Context
     }
 }
 
-// The leaf of a pair whose name stands in a table of words; inlined, so that the table is unrolled.
-#[inline]
+// The leaf of a pair whose name stands in a table of words; always inlined, so that the table is unrolled at both its uses.
+#[inline(always)]
 fn pair_leaf(name: &[u8], lens: &[u8], text: &[u8]) -> Context
     ensures { result ≡ option_map_or PairLeaf (which_of (words_of lens.now text.now) name.now) Skipped }
 {

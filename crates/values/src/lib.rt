@@ -43,7 +43,8 @@ fn next_of(r: Option<(u32, usize)>) -> Next
     r.map_or(Next::Last, |(c, j)| Next::Char(c, j))
 }
 
-// A `<` ends the text unless it begins a comment, which its second byte tells at once.
+// A `<` ends the text unless it begins a comment, which its second byte tells at once. Inlined, for an answer goes through memory.
+#[inline]
 fn look(s: &[u8], at: usize) -> Next
     ensures { result ≡ next_at s.now at }
 {
@@ -174,14 +175,22 @@ pub fn printable_size(s: &[u8], at: usize) -> usize
     size_if(s, at, is_printable)
 }
 
-// Whether the value, each character in a form of it, is w.
+// Whether the value, each character in a form of it, is w. A mark, which most characters are, is taken as it stands: what `slow` answers goes through memory.
 fn matches<F: Fn(u32) -> u32>(s: &[u8], at: usize, w: &[u8], form: F) -> bool
     requires { F.IsAlwaysCallable form }
     ensures { (f : ℕ → ℕ) → Computes (F.post form) f → result ≡ same (map f (value_at s.now at)) w.now }
 {
     let mut i = lead(s, at);
     for b in w {
-        let Some((c, j)) = step(s, i) else {
+        let x = octets::byte(s, i);
+        if calm::is_mark(x) {
+            if form(u32::from(x)) != u32::from(*b) {
+                return false;
+            }
+            i += 1;
+            continue;
+        }
+        let Some((c, j)) = slow(s, i) else {
             return false;
         };
         if form(c) != u32::from(*b) {
@@ -225,7 +234,7 @@ pub fn low_of(c: u32) -> u8
     if c < 128 { c as u8 } else { 0 }
 }
 
-// Puts at most g characters of a value, from a place in it, into `out` at `to`, each as one byte, and says how many.
+// Puts at most g characters of a value, from a place in it, into `out` at `to`, each as one byte, and says how many. A mark is put as it stands.
 // By index: what stands at a place tells where the next character begins, and of what is written through an iterator a proof knows nothing.
 fn copy_rest(s: &[u8], at: usize, g: usize, out: &mut [u8], to: usize) -> usize
     requires { to + length (take g (rest_at s.now at)) ≤ length out.old }
@@ -234,7 +243,13 @@ fn copy_rest(s: &[u8], at: usize, g: usize, out: &mut [u8], to: usize) -> usize
 {
     let mut i = at;
     for k in 0..g {
-        let Some((c, j)) = step(s, i) else {
+        let b = octets::byte(s, i);
+        if calm::is_mark(b) {
+            out[to + k] = b;
+            i += 1;
+            continue;
+        }
+        let Some((c, j)) = slow(s, i) else {
             return k;
         };
         out[to + k] = low_of(c);
