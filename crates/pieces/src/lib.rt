@@ -214,14 +214,20 @@ fn entity(s: &[u8], at: usize, word: &[u8], character: u8) -> Option<(u32, usize
     }
 }
 
+// The byte behind the `&` tells which of the five it can be, so that few words are compared.
 fn worded(s: &[u8], at: usize) -> Option<(u32, usize)>
     ensures { result ≡ worded_at s.now at }
 {
-    entity(s, at, b"&lt;", b'<')
-        .or_else(|| entity(s, at, b"&gt;", b'>'))
-        .or_else(|| entity(s, at, b"&amp;", b'&'))
-        .or_else(|| entity(s, at, b"&quot;", b'"'))
-        .or_else(|| entity(s, at, b"&apos;", b'\''))
+    if octets::byte(s, at) != b'&' {
+        return None;
+    }
+    match octets::byte(s, at + 1) {
+        b'l' => entity(s, at, b"&lt;", b'<'),
+        b'g' => entity(s, at, b"&gt;", b'>'),
+        b'q' => entity(s, at, b"&quot;", b'"'),
+        b'a' => entity(s, at, b"&amp;", b'&').or_else(|| entity(s, at, b"&apos;", b'\'')),
+        _ => None,
+    }
 }
 
 // What a digit counts, in either letter case. 16 and no Option where it is none: the definition figure_of says so, which no base reaches.

@@ -43,8 +43,8 @@ fn next_of(r: Option<(u32, usize)>) -> Next
     r.map_or(Next::Last, |(c, j)| Next::Char(c, j))
 }
 
-// A `<` ends the text unless it begins a comment, which its second byte tells at once. Inlined, for an answer goes through memory.
-#[inline]
+// A `<` ends the text unless it begins a comment, which its second byte tells at once. Always inlined, for an answer goes through memory.
+#[inline(always)]
 fn look(s: &[u8], at: usize) -> Next
     ensures { result ≡ next_at s.now at }
 {
