@@ -10,37 +10,27 @@ use native.Mathlib.Omega.{arith}
 use lib.ListN.{length, get_or}
 use Rattle.std.specs.Prelude.{Option, Some, None, option_map}
 use Rattle.octets.specs.Bytes.{pick, same}
+pub use Rattle.words.specs.WorkingWords.{choice, answer}
 use Rattle.words.specs.WorkingWords.{which_of}
 
 module _ {A : Type 0} (none : A) where
-  -- the answer of the first word that is w, or else the one behind the words'; a definition by a chain of tests is one
-  abbrev pub choice : List (List ℕ) → List A → List ℕ → A
-  choice [] xs w = get_or xs 0 none
-  choice (v ∷ vs) [] w = none
-  choice (v ∷ vs) (x ∷ xs) w = pick (same w v) x (choice vs xs w)
-
-  -- the answer at a place among n words; where there is none, the one behind the last word's
-  abbrev pub answer : ℕ → List A → Option ℕ → A
-  answer n xs None = get_or xs n none
-  answer n xs (Some k) = get_or xs k none
-
-  no_answer : (n : ℕ) (o : Option ℕ) → answer n [] o ≡ none
+  no_answer : (n : ℕ) (o : Option ℕ) → answer none n [] o ≡ none
   no_answer n None = refl
   no_answer n (Some k) = refl
 
-  turned : (b : Bool) (x : A) (n : ℕ) (xs : List A) (o : Option ℕ) {y : A} → answer n xs o ≡ y → answer (suc n) (x ∷ xs) (pick b (Some 0) (option_map suc o)) ≡ pick b x y
+  turned : (b : Bool) (x : A) (n : ℕ) (xs : List A) (o : Option ℕ) {y : A} → answer none n xs o ≡ y → answer none (suc n) (x ∷ xs) (pick b (Some 0) (option_map suc o)) ≡ pick b x y
   turned true x n xs o h = refl
   turned false x n xs None h = h
   turned false x n xs (Some k) h = h
 
-  at_place : (vs : List (List ℕ)) (xs : List A) (w : List ℕ) → answer (length vs) xs (which_of vs w) ≡ choice vs xs w
+  at_place : (vs : List (List ℕ)) (xs : List A) (w : List ℕ) → answer none (length vs) xs (which_of vs w) ≡ choice none vs xs w
   unfolding which_of
   at_place [] xs w = refl
   at_place (v ∷ vs) [] w = no_answer (length (v ∷ vs)) (which_of (v ∷ vs) w)
   at_place (v ∷ vs) (x ∷ xs) w = turned (same w v) x (length vs) xs (which_of vs w) (at_place vs xs w)
 
-  pub chosen : (vs : List (List ℕ)) (xs : List A) (w : List ℕ) {o : Option ℕ} → o ≡ which_of vs w → answer (length vs) xs o ≡ choice vs xs w
-  chosen vs xs w h = ap (λ (o : Option ℕ). answer (length vs) xs o) h ∙ at_place vs xs w
+  pub chosen : (vs : List (List ℕ)) (xs : List A) (w : List ℕ) {o : Option ℕ} → o ≡ which_of vs w → answer none (length vs) xs o ≡ choice none vs xs w
+  chosen vs xs w h = ap (λ (o : Option ℕ). answer none (length vs) xs o) h ∙ at_place vs xs w
 
 -- ---- a place is one of the words'
 
