@@ -3,6 +3,7 @@
 
 ghost use Rattle.std.specs.Prelude.{◌≡◌, ◌++◌, ◌+◌, ◌*◌, ◌≤◌, length, take, drop};
 ghost use Rattle.std.proofs.Math.Seq.{slice};
+ghost use Rattle.std.specs.Ordering.{is_eq};
 ghost use Rattle.octets.specs.Bytes.{pick, same};
 ghost use Rattle.octets.specs.Order.{cmp};
 ghost use Rattle.records.specs.Record.{header, carried, aired};
@@ -48,14 +49,19 @@ pub fn locate(s: &[u8], n: usize, r: &[u8]) -> Result<usize, usize>
     Err(n)
 }
 
+// Whether r is the record that is held. One of another kind is told by its first byte, as most are, without a comparison of the whole.
+fn is_held(r: &[u8], held: &[u8; Record::SIZE]) -> bool
+    ensures { result ≡ is_eq (cmp r.now held.now) }
+{
+    octets::byte(r, Record::KIND) == held[Record::KIND] && octets::compare(r, held).is_eq()
+}
+
 // Whether r is one of the first n records.
 pub fn holds(s: &[u8], n: usize, r: &[u8]) -> bool
     requires { n * 384 ≤ length s.now }
     ensures { result ≡ has r.now (recs n s.now) }
 {
-    first(s, n)
-        .iter()
-        .any(|held| octets::compare(r, held).is_eq())
+    first(s, n).iter().any(|held| is_held(r, held))
 }
 
 // Moves the bytes from `from` up to `to` up by one record.
