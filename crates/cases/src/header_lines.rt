@@ -1,5 +1,5 @@
 // The case lines `read` and `write`.
-use crate::lines::{self, Answer, Buffer, Hex, LENT, ROOM};
+use crate::lines::{self, Answer, Buffer, LENT, ROOM};
 use parts::Parts;
 use std::fmt;
 use std::fmt::Write;
@@ -14,12 +14,9 @@ fn put_parts(p: &Parts, out: &mut Answer) -> fmt::Result {
     out.put(&b.event);
     out.put(b" ");
     lines::put_locations(lines::front(&b.locations, b.count), out)?;
-    let station = Hex(&p.station);
-    write!(
-        out,
-        " {} {} {} {} {station}",
-        b.period, b.day, b.hour, b.minute
-    )
+    write!(out, " {} {} {} {} ", b.period, b.day, b.hour, b.minute)?;
+    out.put_hex(&p.station);
+    Ok(())
 }
 
 pub(crate) fn read(asked: &[u8], out: &mut Answer) -> Option<()> {
@@ -60,6 +57,8 @@ fn codes(t: &[u8]) -> Option<Buffer<192>> {
 }
 
 pub(crate) fn write(asked: &[u8], out: &mut Answer) -> Option<()> {
+    let mut room = [0u8; ROOM];
+    let mut header = [0u8; LENT];
     let mut fields = asked.splitn(9, lines::is_space);
     let originator = originator_number(text(fields.next()?)?);
     let event = text(fields.next()?)?;
@@ -68,9 +67,7 @@ pub(crate) fn write(asked: &[u8], out: &mut Answer) -> Option<()> {
     let day = lines::decimal(fields.next()?)?;
     let hour = lines::decimal(fields.next()?)?;
     let minute = lines::decimal(fields.next()?)?;
-    let mut room = [0u8; ROOM];
     let station = lines::unhex(fields.next()?, &mut room)?;
-    let mut header = [0u8; LENT];
     let header = lines::lent(fields.next()?, &mut header)?;
     let w = header::write_asked(
         originator,
@@ -83,6 +80,7 @@ pub(crate) fn write(asked: &[u8], out: &mut Answer) -> Option<()> {
         station,
         header,
     );
-    let written = lines::front(header, w.len);
-    write!(out, "{} {}", w.number, Hex(written)).ok()
+    write!(out, "{} ", w.number).ok()?;
+    out.put_hex(lines::front(header, w.len));
+    Some(())
 }

@@ -1,10 +1,11 @@
 // Case lines: the fields of a line that asks, and an answer put together.
-ghost use Rattle.std.specs.Prelude.{◌<◌, ◌≤◌, IfSome};
+ghost use Rattle.std.specs.Prelude.{◌<◌, ◌≤◌, length, IfSome};
 
 use std::fmt;
 use std::fmt::Write;
 
-// As many bytes as the longest line can write in hexadecimal.
+// As many bytes as the longest line can write in hexadecimal. The arrays that an answer lends are made before its first `?`: one that is made behind it is
+// filled with zeros twice, as the call begins too.
 pub const ROOM: usize = 100000;
 
 // The longest output that a line lends.
@@ -34,7 +35,9 @@ fn hex_digit(b: u8) -> Option<u8>
 }
 
 // The bytes that t writes in hexadecimal, `-` for none, at the front of `room`; None where it is no hexadecimal, or writes more than fit.
-pub(crate) fn unhex<'a>(t: &[u8], room: &'a mut [u8]) -> Option<&'a mut [u8]> {
+pub(crate) fn unhex<'a>(t: &[u8], room: &'a mut [u8]) -> Option<&'a mut [u8]>
+    ensures { IfSome result (λ bytes. length bytes.now ≤ length room.old) }
+{
     if matches!(t, [b'-']) {
         return Some(&mut room[..0]);
     }
@@ -67,6 +70,16 @@ pub(crate) fn lent<'a>(t: &[u8], room: &'a mut [u8]) -> Option<&'a mut [u8]> {
 }
 
 // ---- answered
+
+// The hexadecimal digit that counts d.
+fn digit_of(d: u8) -> u8
+    requires { d < 16 }
+{
+    match d {
+        0..=9 => b'0' + d,
+        _ => b'a' + (d - 10),
+    }
+}
 
 // Bytes put one behind the other. What does not fit is left out. Of fixed size and no Vec: nothing here allocates.
 #[derive(Drop)]
@@ -110,27 +123,27 @@ impl<const N: usize> Buffer<N> {
             self.len = at + t.len();
         }
     }
+
+    // Bytes in hexadecimal, `-` for none. No Display: a formatter would take each byte as a text of its own, and a board has up to 100000.
+    pub(crate) fn put_hex(&mut self, t: &[u8]) {
+        if t.is_empty() {
+            return self.put(b"-");
+        }
+        let at = self.len;
+        if t.len() <= (N - at) / 2 {
+            let room = &mut self.bytes[..];
+            let pairs = room[at..at + 2 * t.len()].as_chunks_mut().0;
+            for (digits, b) in pairs.iter_mut().zip(t) {
+                *digits = [digit_of(*b / 16), digit_of(*b % 16)];
+            }
+            self.len = at + 2 * t.len();
+        }
+    }
 }
 
 impl<const N: usize> fmt::Write for Buffer<N> {
     fn write_str(&mut self, s: &str) -> fmt::Result {
         self.put(s.as_bytes());
-        Ok(())
-    }
-}
-
-// Bytes in hexadecimal, `-` for none.
-#[derive(Clone, Copy)]
-pub struct Hex<'a>(pub &'a [u8]);
-
-impl fmt::Display for Hex<'_> {
-    fn fmt<W: fmt::Write>(&self, f: &mut fmt::Formatter<W>) -> fmt::Result {
-        if self.0.is_empty() {
-            return write!(f, "-");
-        }
-        for b in self.0 {
-            write!(f, "{b:02x}")?;
-        }
         Ok(())
     }
 }

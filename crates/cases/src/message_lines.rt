@@ -1,5 +1,5 @@
 // The case line `message`: what is found in a message.
-use crate::lines::{self, Answer, Hex};
+use crate::lines::{self, Answer};
 use fields::MsgType;
 use reads::{Alert, Info, Kept, Leaf, Locations};
 use std::fmt;
@@ -13,8 +13,9 @@ fn put_value(s: &[u8], number: u32, place: usize, out: &mut Answer) -> fmt::Resu
     let mut value = [0u8; 160];
     let first = values::lead(s, place);
     let spelled = values::spell(s, first, 40, &mut value, 0);
-    let written = lines::front(&value, spelled.end);
-    write!(out, " {number}:{}", Hex(written))
+    write!(out, " {number}:")?;
+    out.put_hex(lines::front(&value, spelled.end));
+    Ok(())
 }
 
 fn put_leaves(s: &[u8], leaves: &[Leaf], out: &mut Answer) -> fmt::Result {
