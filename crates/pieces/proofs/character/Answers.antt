@@ -1,15 +1,14 @@
--- A byte of a run is no `&` and stands for itself, and so does `]`; of the others only one from 128 on may begin a character.
+-- A byte of a run is no `&` and stands for itself, and so does `]`.
 use native.Mathlib.Omega.{arith}
 use mathlib.Core.Path.{sym, ap, ◌∙◌, ◌≡◌}
 use Prim.Native.Nat.{ℕ, ◌+◌, ◌<◌}
 use lib.Dec.{lit<}
 use lib.ListN.{length}
-use mathlib.Core.Bool.{false}
 use Rattle.octets.specs.Bytes.{byte_at}
 use Rattle.pieces.specs.WorkingClasses.{is_run}
 use Rattle.std.specs.Prelude.{Some}
 use Rattle.pieces.proofs.Words.{inside_is}
-use Rattle.pieces.proofs.Inside.{run_in, char-run, char-bracket, char-ref, char-low}
+use Rattle.pieces.proofs.Inside.{run_in, char-run, char-bracket}
 use Rattle.pieces.proofs.character.Goals as goal
 use Rattle.pieces.proofs.character.Goals.{then-is_run-via-then-is_run, then-is_run-via-else-is_run+then-b-eq93}
 
@@ -34,21 +33,3 @@ returns-then-is_run c =
           let e = w.if-b-eq93.true in
           ap (λ (b : ℕ). Some (b, i + 1)) (c.from.ensures ∙ e) ∙ char-bracket s i (sym c.byte-b.ensures ∙ e)
     ]
-
-pub returns-then-b-eq38 : goal.returns-then-b-eq38
-returns-then-b-eq38 c =
-    let a = c.args in
-    c.reference.ensures ∙ char-ref a.s.now a.at (sym c.byte-b.ensures ∙ c.if-b-eq38.true)
-
-pub returns-then-b-lt128 : goal.returns-then-b-lt128
-returns-then-b-lt128 c =
-    let a = c.args in
-    let l : byte_at a.s.now a.at < 128 = omega (arith, c.byte-b.ensures, c.if-b-lt128.true) in
-    let k : is_run (byte_at a.s.now a.at) ≡ false = cc in
-    char-low a.s.now a.at l k (λ e. c.if-b-eq93.false (c.byte-b.ensures ∙ e)) (λ e. c.if-b-eq38.false (c.byte-b.ensures ∙ e))
-
-pub wide-requires : goal.wide-requires
-wide-requires c = omega (arith, c.byte-b.ensures, c.if-b-lt128.false)
-
-pub returns-else-b-lt128 : goal.returns-else-b-lt128
-returns-else-b-lt128 c = c.wide.ensures
