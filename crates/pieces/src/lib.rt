@@ -2,7 +2,7 @@
 // function: the definitions take them so, and a struct of both would be taken apart in each.
 #![tactic(auto)]
 
-ghost use Rattle.std.specs.Prelude.{◌≡◌, ℕ, Bool, true, false, Option, None, ◌+◌, ◌≤◌, length};
+ghost use Rattle.std.specs.Prelude.{◌≡◌, ℕ, Bool, true, Option, None, ◌+◌, ◌<◌, ◌≤◌, length};
 ghost use Rattle.octets.specs.Bytes.{pick, byte_at, part, is_space};
 ghost use Rattle.octets.specs.Scan.{past, scan_by};
 ghost use Rattle.characters.specs.Utf8.{width_at, through};
@@ -266,8 +266,8 @@ fn number_reference(s: &[u8], at: usize, base: u8) -> Option<(u32, usize)>
     characters::is_legal(v).then_some((v, e + 1))
 }
 
-// Inlined, for an answer goes through memory.
-#[inline]
+// Always inlined, for an answer goes through memory.
+#[inline(always)]
 pub fn reference(s: &[u8], at: usize) -> Option<(u32, usize)>
     ensures { result ≡ ref_at s.now at }
 {
@@ -302,21 +302,23 @@ pub fn character(s: &[u8], at: usize) -> Option<(u32, usize)>
     if is_run(b) || b == b']' {
         return Some((u32::from(b), at + 1));
     }
+    if b < 128 && b != b'&' {
+        return None;
+    }
     other(s, at)
 }
 
-// A character that is no byte of a run, and no `]`.
+// A character that is a reference, or of more than one byte.
 #[inline(never)]
 fn other(s: &[u8], at: usize) -> Option<(u32, usize)>
-    requires no_run { is_run (byte_at s.now at) ≡ false }
-    requires no_bracket { byte_at s.now at ≡ 93 → ⊥ }
+    requires { byte_at s.now at < 128 → byte_at s.now at ≡ 38 }
     ensures { result ≡ char_at s.now at }
 {
-    let b = octets::byte(s, at);
-    if b == b'&' {
-        return reference(s, at);
+    if octets::byte(s, at) == b'&' {
+        reference(s, at)
+    } else {
+        wide(s, at)
     }
-    if b < 128 { None } else { wide(s, at) }
 }
 
 // ---- what an element holds
